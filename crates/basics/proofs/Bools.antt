@@ -1,0 +1,57 @@
+-- Going by the cases of a test, and what `&&` and `||` say. Assumes nothing.
+use Prim.Native.Nat.{_<_, _≤_, ℕ}
+use borrow.Author.Tests.{eqb-false, eqb-true, leb-false, leb-true}
+use lib.Dec.{eqb, leb}
+use mathlib.Core.Bool.{Bool, _&&_, _||_, false, true}
+use mathlib.Core.Logic.{_≢_, _⊎_, inl, inr}
+use mathlib.Core.Path.{_≡_, refl}
+use native.Mathlib.Omega.{arith}
+
+-- the cases of a test, each with its equation
+pub on : {C : Type 0} (b : Bool) → (b ≡ true → C) → (b ≡ false → C) → C
+on true f g = f refl
+on false f g = g refl
+
+-- two numbers are equal, or not
+pub by-eq : {C : Type 0} (a b : ℕ) → (a ≡ b → C) → (a ≢ b → C) → C
+by-eq a b f g = on (eqb a b) (λ e. f (eqb-true a b e)) (λ e. g (eqb-false a b e))
+
+-- one number is at most another, or above it
+pub by-le : {C : Type 0} (a b : ℕ) → (a ≤ b → C) → (b < a → C) → C
+by-le a b f g = on (leb a b) (λ e. f (leb-true a b e)) (λ e. g (leb-false a b e))
+
+-- a test that is both true and false
+pub clash : {C : Type 0} (b : Bool) → b ≡ true → b ≡ false → C
+clash b p q = let z : _≡_ {A = ℕ} 0 1 = cc in absurd (omega arith)
+
+-- what `&&` says
+pub and-l : (a b : Bool) → a && b ≡ true → a ≡ true
+and-l true b e = refl
+and-l false b e = e
+
+pub and-r : (a b : Bool) → a && b ≡ true → b ≡ true
+and-r true b e = e
+and-r false b e = clash false e refl
+
+pub and-of : (a b : Bool) → a ≡ true → b ≡ true → a && b ≡ true
+and-of a b p q = cc
+
+-- what `||` says
+pub or-cases : (a b : Bool) → a || b ≡ true → (a ≡ true) ⊎ (b ≡ true)
+or-cases true b e = inl refl
+or-cases false b e = inr e
+
+pub or-l : (a b : Bool) → a ≡ true → a || b ≡ true
+or-l a b e = cc
+
+pub or-r : (a b : Bool) → b ≡ true → a || b ≡ true
+or-r true b e = refl
+or-r false b e = e
+
+pub or-false-l : (a b : Bool) → a || b ≡ false → a ≡ false
+or-false-l true b e = clash true refl e
+or-false-l false b e = refl
+
+pub or-false-r : (a b : Bool) → a || b ≡ false → b ≡ false
+or-false-r true b e = clash true refl e
+or-false-r false b e = e

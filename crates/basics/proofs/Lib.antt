@@ -1,0 +1,5 @@
+pub mod Bools
+pub mod Searches
+pub mod Tables
+pub mod Counts
+pub mod Sums

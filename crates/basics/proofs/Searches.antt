@@ -1,0 +1,151 @@
+-- What `every`, `any`, `seek` and `lowest` find. Assumes nothing.
+use Prim.Native.Nat.{_+_, _<_, _≤_, suc, zero, ℕ}
+use borrow.Author.Tests.{eqb-false, eqb-true, ltb-false, ltb-true}
+use lib.Dec.{eqb, ltb}
+use mathlib.Core.Bool.{Bool, cond, false, true}
+use mathlib.Core.Logic.{_≢_}
+use mathlib.Core.Option.{Option, none, some}
+use mathlib.Core.Path.{_≡_, ap, refl}
+use native.Mathlib.Omega.{arith}
+use Rattle.basics.specs.Tools.{any, better, every, lowest, seek}
+use Rattle.basics.proofs.Bools.{and-l, and-of, and-r, by-eq, clash, on, or-false-l, or-false-r}
+
+-- each passes, so the one at x does
+pub every-at : (p : ℕ → Bool) (i k : ℕ) → every p i k ≡ true → (x : ℕ) → i ≤ x → x < i + k → p x ≡ true
+unfolding every
+every-at p i zero e x l h = absurd (omega arith)
+every-at p i (suc k) e x l h =
+    on (eqb i x) (λ q. let q' : i ≡ x = eqb-true i x q in rw (← q') (and-l _ _ e))
+    (λ q. every-at p (suc i) k (and-r (p i) _ e) x (let q' : i ≢ x = eqb-false i x q in omega arith) (omega arith))
+
+-- each of them passes
+pub every-of : (p : ℕ → Bool) (i k : ℕ) → ((x : ℕ) → i ≤ x → x < i + k → p x ≡ true) → every p i k ≡ true
+unfolding every
+every-of p i zero h = refl
+every-of p i (suc k) h =
+    and-of (p i) _ (h i (omega arith) (omega arith))
+    (every-of p (suc i) k (λ x l m. h x (omega arith) (omega arith)))
+
+-- not every one passes, so one does not
+pub every-false : (p : ℕ → Bool) (i k : ℕ) → every p i k ≡ false → (x : ℕ) × (i ≤ x) × (x < i + k) × (p x ≡ false)
+unfolding every
+every-false p i zero e = clash true refl e
+every-false p i (suc k) e =
+    on (p i)
+    (λ q. let e' : every p (suc i) k ≡ false = rw q at e in
+    let r = every-false p (suc i) k e' in
+    let a = r .1 in
+    let b = r .2 in
+    (r .0, omega arith, omega arith, r .3))
+    (λ q. (i, omega arith, omega arith, q))
+
+-- the place found is not before the start
+pub seek-ge : (p : ℕ → Bool) (i k : ℕ) → i ≤ seek p i k
+unfolding seek
+seek-ge p i zero = omega arith
+seek-ge p i (suc k) = on (p i) (λ e. rw e (omega arith)) (λ e. rw e (omega (arith, seek-ge p (suc i) k)))
+
+-- and not past the end
+pub seek-le : (p : ℕ → Bool) (i k : ℕ) → seek p i k ≤ i + k
+unfolding seek
+seek-le p i zero = omega arith
+seek-le p i (suc k) = on (p i) (λ e. rw e (omega arith)) (λ e. rw e (omega (arith, seek-le p (suc i) k)))
+
+-- what is found passes
+pub seek-hit : (p : ℕ → Bool) (i k : ℕ) → seek p i k < i + k → p (seek p i k) ≡ true
+unfolding seek
+seek-hit p i zero h = absurd (omega arith)
+seek-hit p i (suc k) h =
+    on (p i) (λ e. rw e e)
+    (λ e. rw e (seek-hit p (suc i) k (let h' : seek p (suc i) k < i + suc k = rw e at h in omega arith)))
+
+-- what stands before it does not
+pub seek-miss : (p : ℕ → Bool) (i k : ℕ) (x : ℕ) → i ≤ x → x < seek p i k → p x ≡ false
+unfolding seek
+seek-miss p i zero x l h = absurd (omega arith)
+seek-miss p i (suc k) x l h =
+    on (p i) (λ e. absurd (let h' : x < i = rw e at h in omega arith))
+    (λ e. let h' : x < seek p (suc i) k = rw e at h in
+    on (eqb i x) (λ q. let q' : i ≡ x = eqb-true i x q in rw (← q') e)
+    (λ q. let q' : i ≢ x = eqb-false i x q in seek-miss p (suc i) k x (omega arith) h'))
+
+-- some passes: which
+pub any-true : (p : ℕ → Bool) (m : ℕ) → any p m ≡ true → (j : ℕ) × (j < m) × (p j ≡ true)
+unfolding any
+any-true p zero e = clash false e refl
+any-true p (suc m) e =
+    on (p m) (λ q. (m, omega arith, q))
+    (λ q. let r = any-true p m (rw q at e) in let r₁ = r .1 in (r .0, omega arith, r .2))
+
+-- none passes
+pub any-false : (p : ℕ → Bool) (m : ℕ) → any p m ≡ false → (j : ℕ) → j < m → p j ≡ false
+unfolding any
+any-false p zero e j h = absurd (omega arith)
+any-false p (suc m) e j h =
+    by-eq j m (λ q. rw q (or-false-l (p m) _ e)) (λ q. any-false p m (or-false-r (p m) _ e) j (omega arith))
+
+-- nothing was found, so none passes
+pub lowest-none : (ok : ℕ → Bool) (num : ℕ → ℕ) (m : ℕ) → lowest ok num m ≡ none → (j : ℕ) → j < m → ok j ≡ false
+unfolding lowest better
+lowest-none ok num zero e j h = absurd (omega arith)
+lowest-none ok num (suc m) e j h = go (ok m) refl (lowest ok num m) refl (lowest-none ok num m)
+  where
+    go : (b : Bool) → ok m ≡ b → (r : Option ℕ) → lowest ok num m ≡ r → (lowest ok num m ≡ none → (j : ℕ) → j < m → ok j ≡ false) → ok j ≡ false
+    go false eb r er ih =
+        on (eqb j m) (λ q. let q' : j ≡ m = eqb-true j m q in cc)
+        (λ q. let q' : j ≢ m = eqb-false j m q in ih (rw eb at e) j (omega arith))
+    go true eb none er ih = let z : some m ≡ none = rw (eb, er) at e in cc
+    go true eb (some a) er ih =
+        let z : cond (ltb (num m) (num a)) (some m) (some a) ≡ none = rw (eb, er) at e in
+        on (ltb (num m) (num a)) (λ q. let y : some m ≡ none = rw q at z in cc) (λ q. let y : some a ≡ none = rw q at z in cc)
+
+-- a passes, and has the lowest number of those that pass
+pub record IsLowest (ok : ℕ → Bool) (num : ℕ → ℕ) (m a : ℕ) : Type 0 where
+  pub below : a < m
+  pub passes : ok a ≡ true
+  pub least : (j : ℕ) → j < m → ok j ≡ true → num a ≤ num j
+
+-- what was found is the lowest
+pub lowest-some : (ok : ℕ → Bool) (num : ℕ → ℕ) (m a : ℕ) → lowest ok num m ≡ some a → IsLowest ok num m a
+unfolding lowest better
+lowest-some ok num zero a e = let z : _≡_ {A = ℕ} 0 1 = cc in absurd (omega arith)
+lowest-some ok num (suc m) a e = go (ok m) refl (lowest ok num m) refl (lowest-some ok num m)
+  where
+    go : (b : Bool) → ok m ≡ b → (r : Option ℕ) → lowest ok num m ≡ r → ((a : ℕ) → lowest ok num m ≡ some a → IsLowest ok num m a) → IsLowest ok num (suc m) a
+    go false eb r er ih =
+        let y : IsLowest ok num m a = ih a (rw eb at e) in
+        record {
+          below = omega arith;
+          passes = y .passes;
+          least = λ j h q. on (eqb j m) (λ t. let t' : j ≡ m = eqb-true j m t in clash (ok m) (rw (← t') q) eb) (λ t. let t' : j ≢ m = eqb-false j m t in y .least j (omega arith) q);
+        }
+    go true eb none er ih =
+        let z : some m ≡ some a = rw (eb, er) at e in
+        let y : a ≡ m = cc in
+        record {
+          below = omega arith;
+          passes = rw y eb;
+          least = λ j h q. on (eqb j m) (λ t. let t' : j ≡ m = eqb-true j m t in let g : num a ≡ num j = cc in omega arith) (λ t. let t' : j ≢ m = eqb-false j m t in clash (ok j) q (lowest-none ok num m er j (omega arith)));
+        }
+    go true eb (some b) er ih =
+        let z : cond (ltb (num m) (num b)) (some m) (some b) ≡ some a = rw (eb, er) at e in
+        let y : IsLowest ok num m b = ih b er in
+        on (ltb (num m) (num b))
+        (λ q.
+        let z' : some m ≡ some a = rw q at z in
+        let t : a ≡ m = cc in
+        record {
+          below = omega arith;
+          passes = rw t eb;
+          least = λ j h u.
+              by-eq j m (λ v. let g : num a ≡ num j = cc in omega arith) (λ v. omega (arith, ltb-true, y .least j (omega arith) u, ap num t));
+        })
+        (λ q.
+        let z' : some b ≡ some a = rw q at z in
+        let t : a ≡ b = cc in
+        record {
+          below = omega arith;
+          passes = rw t (y .passes);
+          least = λ j h u.
+              by-eq j m (λ v. omega (arith, ltb-false, ap num t, ap num v)) (λ v. omega (arith, y .least j (omega arith) u, ap num t));
+        })

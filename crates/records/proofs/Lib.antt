@@ -1,0 +1,5 @@
+pub mod CellLaws
+pub mod Encode
+pub mod Parts
+pub mod Inverse
+pub mod Files

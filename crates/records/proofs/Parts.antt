@@ -1,0 +1,71 @@
+-- Laws of parts: lists of a known length, records that are stored, and parts that were lent and came back. Assumes nothing.
+use Prim.Native.Nat.{ℕ, zero, suc, _+_, _/_, _%_, _-_, _≤_}
+use mathlib.Core.Path.{_≡_, refl, ap, _∙_, sym}
+use mathlib.Core.List.{List, [], _∷_, _++_, append-assoc, append-nil}
+use native.Mathlib.Omega.{arith}
+use native.Mathlib.Nat.{le-refl, zero-add, suc-add}
+use lib.ListN.{length, getD, set, drop, take, length-drop, drop-of-length-le, replicate}
+use borrow.Rule.Slice.PartMut.{putMid, midOf, postOf}
+use Rattle.records.specs.Bytes.{bytes16, bytes32, setCell, encode}
+use Rattle.records.specs.Records.{putRecord}
+use lib.Seq.{getD-append-add, take-at, drop-append-add, drop-drop, take-all}
+
+-- the first n elements, written out one by one
+abbrev pub firsts : ℕ → List ℕ → List ℕ
+firsts zero r = []
+firsts (suc n) r = getD r 0 0 ∷ firsts n (drop 1 r)
+
+-- a list of n elements is its first n elements
+pub written-out : (n : ℕ) (r : List ℕ) → length r ≡ n → r ≡ firsts n r
+written-out zero [] h = refl
+written-out zero (x ∷ r) h = absurd (omega arith)
+written-out (suc n) [] h = absurd (omega arith)
+written-out (suc n) (x ∷ r) h = ap (λ (l : List ℕ). x ∷ l) (written-out n r (omega arith))
+
+-- where d is written at the start of a list, and then b after it, d and b are written and the rest is as it was
+pub block-more : (d b out₀ : List ℕ) (a e : ℕ) → length d ≡ a → a + length b ≡ e
+    → take a (d ++ drop a out₀) ++ (b ++ drop e (d ++ drop a out₀)) ≡ (d ++ b) ++ drop e out₀
+block-more d b out₀ a e p q =
+    let r : drop e (d ++ drop a out₀) ≡ drop e out₀ =
+    ap (λ (k : ℕ). drop k (d ++ drop a out₀)) (sym q ∙ ap (λ (k : ℕ). k + length b) (sym p))
+    ∙ drop-append-add d (drop a out₀) (length b) ∙ drop-drop (length b) a out₀ ∙ ap (λ (k : ℕ). drop k out₀) q in
+    rw (take-at d (drop a out₀) a p, r) (sym (append-assoc d b (drop e out₀)))
+
+-- 8 bytes into which four cells are stored are those four cells, written
+pub four-cells : (r r₁ r₂ r₃ r₄ : List ℕ) (a b c d : ℕ) → length r ≡ 8 → r₁ ≡ setCell r 0 a → r₂ ≡ setCell r₁ 1 b → r₃ ≡ setCell r₂ 2 c → r₄ ≡ setCell r₃ 3 d
+    → r₄ ≡ encode (a ∷ b ∷ c ∷ d ∷ [])
+unfolding setCell encode
+four-cells r r₁ r₂ r₃ r₄ a b c d h p₁ p₂ p₃ p₄ =
+    p₄ ∙ ap (λ (l : List ℕ). setCell l 3 d) (p₃ ∙ ap (λ (l : List ℕ). setCell l 2 c) (p₂ ∙ ap (λ (l : List ℕ). setCell l 1 b) p₁))
+    ∙ ap (λ (l : List ℕ). setCell (setCell (setCell (setCell l 0 a) 1 b) 2 c) 3 d) (written-out 8 r h)
+
+-- a record that is put as four cells, the first two of them the halves of v, is v and the other two, written
+pub put-wide : (t s : List ℕ) (i low high v c d : ℕ) → low ≡ v % 65536 → high ≡ v / 65536
+    → t ≡ putRecord s i (encode (low ∷ high ∷ c ∷ d ∷ [])) → t ≡ putRecord s i (bytes32 v ++ (bytes16 c ++ bytes16 d))
+unfolding encode
+put-wide t s i low high v c d p q e = e ∙ (λ k. putRecord s i (encode (p k ∷ q k ∷ c ∷ d ∷ [])))
+
+-- the part of xs from a on was lent, b was written at its start, and it came back: b stands at a and all else is as it was
+pub tail-back : (a k : ℕ) (xs ys b : List ℕ) → ys ≡ b ++ drop k (midOf a (length xs - a) xs) → putMid a (length xs - a) xs ys ≡ take a xs ++ (b ++ drop (a + k) xs)
+tail-back a k xs ys b h =
+    let l : length (drop a xs) ≤ length xs - a = rw length-drop (le-refl (length xs - a)) in
+    let m : midOf a (length xs - a) xs ≡ drop a xs = take-all (length xs - a) (drop a xs) l in
+    let p : postOf a (length xs - a) xs ≡ [] = drop-of-length-le (drop a xs) {i = length xs - a} l in
+    ap (λ (z : List ℕ). take a xs ++ z)
+    ((λ i. ys ++ p i) ∙ append-nil ys ∙ h ∙ ap (λ (z : List ℕ). b ++ drop k z) m ∙ ap (λ (z : List ℕ). b ++ z) (drop-drop k a xs))
+
+-- a list of k elements of which k became zero is k zeros
+pub zeroed : (w w₀ : List ℕ) (k : ℕ) → length w₀ ≡ k → w ≡ replicate k 0 ++ drop k w₀ → w ≡ replicate k 0
+zeroed w w₀ k l h = h ∙ ap (λ (t : List ℕ). replicate k 0 ++ t) (drop-of-length-le w₀ {i = k} (omega arith)) ∙ append-nil (replicate k 0)
+
+-- a store past the first n elements is a store into what follows them
+pub set-right : (a b : List ℕ) (n i v : ℕ) → length a ≡ n → set (a ++ b) (n + i) v ≡ a ++ set b i v
+set-right a b n i v e = rw (← e) (go a b i v)
+  where
+    go : (a b : List ℕ) (i v : ℕ) → set (a ++ b) (length a + i) v ≡ a ++ set b i v
+    go [] b i v = rw zero-add
+    go (x ∷ a) b i v = rw suc-add (ap (λ (l : List ℕ). x ∷ l) (go a b i v))
+
+-- an element past the first n is an element of what follows them
+pub getD-right : (a b : List ℕ) (n i : ℕ) → length a ≡ n → getD (a ++ b) (n + i) 0 ≡ getD b i 0
+getD-right a b n i e = rw (← e) (getD-append-add a b i 0)
