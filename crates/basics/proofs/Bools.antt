@@ -36,6 +36,11 @@ and-r false b e = clash false e refl
 pub and-of : (a b : Bool) → a ≡ true → b ≡ true → a && b ≡ true
 and-of a b p q = cc
 
+-- what fails, fails with more to test
+pub and-none : (a b : Bool) → a && false && b ≡ false
+and-none true b = refl
+and-none false b = refl
+
 -- what `||` says
 pub or-cases : (a b : Bool) → a || b ≡ true → (a ≡ true) ⊎ (b ≡ true)
 or-cases true b e = inl refl

@@ -149,3 +149,9 @@ lowest-some ok num (suc m) a e = go (ok m) refl (lowest ok num m) refl (lowest-s
           least = λ j h u.
               by-eq j m (λ v. omega (arith, ltb-false, ap num t, ap num v)) (λ v. omega (arith, y .least j (omega arith) u, ap num t));
         })
+
+-- two tests that agree below m
+pub any-eq : (p q : ℕ → Bool) (m : ℕ) → ((j : ℕ) → j < m → p j ≡ q j) → any p m ≡ any q m
+unfolding any
+any-eq p q zero h = refl
+any-eq p q (suc m) h = rw (h m (omega arith), any-eq p q m (λ j l. h j (omega arith)))

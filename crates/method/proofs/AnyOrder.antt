@@ -1,0 +1,44 @@
+-- The same records in another file order have the same plan. Assumes nothing.
+use Prim.Native.Nat.{ℕ}
+use mathlib.Core.List.{List}
+use mathlib.Core.Path.{_∙_, _≡_, ap, sym}
+use native.Mathlib.Omega.{arith}
+use Rattle.records.specs.declared.Circuit.{Circuit}
+use Rattle.method.specs.Demands.{Rearranged, SamePlan}
+use Rattle.method.specs.Line.{Distinct, Lies, circuit, total}
+use Rattle.method.proofs.Order.{Match, fibres-match, floor-match, plan-match}
+
+-- a rearrangement has no gaps, and no number stands twice in it
+pub rearranged : (n : ℕ) (cs ds : List Circuit) → Lies n cs → Distinct cs → Rearranged cs ds → Match cs ds
+unfolding circuit
+rearranged n cs ds lies once h =
+    record {
+      once = λ i j a b r s e. once i j a b e;
+      once' = λ i j a b r s e.
+          let x = h .fro i a in
+          let y = h .fro j b in
+          let z : h .back i ≡ h .back j = once (h .back i) (h .back j) (x .0) (y .0) (ap (λ c. c .number) (sym (x .2)) ∙ e ∙ ap (λ c. c .number) (y .2)) in
+          sym (x .1) ∙ ap (h .there) z ∙ y .1;
+      gap = λ i l. lies i l .0;
+      gap' = λ j l. let x = h .fro j l in omega (arith, lies (h .back j) (x .0) .0, ap (λ c. c .first) (x .2));
+      there = h .there;
+      back = h .back;
+      to = λ i l r. let x = h .to i l in (x .0, x .2);
+      fro = λ j l r. let x = h .fro j l in (x .0, x .2);
+    }
+
+-- the same records in another file order have the same plan
+pub any-order : (n w : ℕ) (cs ds : List Circuit) → Lies n cs → Distinct cs → Rearranged cs ds → SamePlan n w cs ds
+unfolding circuit
+any-order n w cs ds lies once h =
+    let m = rearranged n cs ds lies once h in
+    record {
+      fibres-same = fibres-match n w cs ds m;
+      total-same = ap total (fibres-match n w cs ds m);
+      floor-same = floor-match n w cs ds m;
+      assigned-same = λ i j a b e.
+          let x = h .fro j b in
+          let z : i ≡ h .back j = once i (h .back j) a (x .0) (e ∙ ap (λ c. c .number) (x .2)) in
+          let l = lies i a in
+          plan-match n w cs ds m i j (record { in-cs = a; in-ds = b; real = omega arith; same = ap (circuit cs) z ∙ sym (x .2) });
+    }
