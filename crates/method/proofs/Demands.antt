@@ -6,7 +6,7 @@ use Rattle.records.specs.declared.Circuit.{Circuit}
 use Rattle.method.specs.Demands.{Demand2, Demand3, OwnLinks, during, inRow}
 use Rattle.method.specs.Fibres.{fibres, pairs}
 use Rattle.method.specs.Line.{Lies, over}
-use Rattle.method.specs.Sheet.{most, rows, rows}
+use Rattle.method.specs.Sheet.{most, rows}
 use Rattle.method.proofs.AnyOrder.{any-order}
 use Rattle.method.proofs.Bound.{floor-least, need-fits}
 use Rattle.method.proofs.During.{own-during}

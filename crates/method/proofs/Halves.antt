@@ -15,7 +15,7 @@ use Rattle.records.specs.declared.Circuit.{Circuit}
 use Rattle.method.specs.Demands.{OwnLinks}
 use Rattle.method.specs.Fibres.{onFirst, onFirstBy, together}
 use Rattle.method.specs.Line.{circuit, overlap}
-use Rattle.method.specs.Sheet.{rows, rows}
+use Rattle.method.specs.Sheet.{rows}
 use Rattle.method.proofs.Intervals.{lasts-differ, middle}
 use Rattle.method.proofs.Links.{overlap-r, overlap-sym}
 

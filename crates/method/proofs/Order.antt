@@ -16,7 +16,7 @@ use Rattle.basics.proofs.Tables.{getD-each}
 use Rattle.records.specs.declared.Circuit.{Circuit}
 use Rattle.method.specs.Fibres.{assignments, fibres, find, floor, given, inLayer, layer, layerOf, layers, onFirst, onFirstBy, pairOf, pairs, plan, runs, together, twice, wavelengthOf}
 use Rattle.method.specs.Line.{Assignment, assigned, circuit, over, overlap, unassigned, uses}
-use Rattle.method.specs.Sheet.{State, act, at, begun, blue, chosen, fits, fresh, inRun, load, most, need, open', paint, red, redTo, row, rowOf, rows, rows, runFrom, sheet, step, steps, taken}
+use Rattle.method.specs.Sheet.{State, act, at, begun, blue, chosen, fits, fresh, inRun, load, most, need, open', paint, red, redTo, row, rowOf, rows, runFrom, sheet, step, steps, taken}
 use Rattle.method.proofs.Colours.{fits-real}
 use Rattle.method.proofs.Links.{uses-first, uses-last}
 use Rattle.method.proofs.Placed.{all-waiting}
@@ -39,7 +39,7 @@ use Rattle.basics.proofs.Tables.{getD-each}
 use Rattle.records.specs.declared.Circuit.{Circuit}
 use Rattle.method.specs.Fibres.{assignments, fibres, find, floor, given, layer, layerOf, layers, onFirst, onFirstBy, pairOf, pairs, plan, runs, twice, wavelengthOf}
 use Rattle.method.specs.Line.{Assignment, assigned, circuit, over, overlap, unassigned, uses}
-use Rattle.method.specs.Sheet.{State, act, at, blue, chosen, fits, fresh, inRun, load, most, need, open', paint, red, redTo, row, rowOf, rows, rows, runFrom, sheet, step, steps, taken}
+use Rattle.method.specs.Sheet.{State, act, at, blue, chosen, fits, fresh, inRun, load, most, need, open', paint, red, redTo, row, rowOf, rows, runFrom, sheet, step, steps, taken}
 use Rattle.method.proofs.Colours.{fits-real}
 use Rattle.method.proofs.Links.{uses-first, uses-last}
 use Rattle.method.proofs.Steps.{new-row, old-row, some-length}

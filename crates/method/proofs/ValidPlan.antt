@@ -14,7 +14,7 @@ use Rattle.basics.proofs.Tables.{getD-each, length-each}
 use Rattle.records.specs.declared.Circuit.{Circuit}
 use Rattle.method.specs.Fibres.{assignments, fibres, given, inLayer, layerOf, layers, onFirst, pairOf, pairs, plan, twice, wavelengthOf}
 use Rattle.method.specs.Line.{Fibre, Lies, Valid, assigned, circuit, fibreUnder, noFibre, over, overlap, unassigned, uses}
-use Rattle.method.specs.Sheet.{State, at, most, need, redTo, rowOf, rows, rows, sheet}
+use Rattle.method.specs.Sheet.{State, at, most, need, redTo, rowOf, rows, sheet}
 use Rattle.method.proofs.During.{own-after}
 use Rattle.method.proofs.FibreLists.{all-getD, at-most-one, find-hit, length-twice, twice-first, twice-second}
 use Rattle.method.proofs.Halves.{differ, run-idle}

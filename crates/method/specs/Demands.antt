@@ -11,7 +11,7 @@ use Rattle.basics.specs.Tools.{count}
 use Rattle.records.specs.declared.Circuit.{Circuit}
 use Rattle.method.specs.Fibres.{fibres, floor, onFirst, pairOf, pairs, plan}
 use Rattle.method.specs.Line.{Distinct, Plan, Valid, assigned, circuit, fibresOver, noFibre, total, uses}
-use Rattle.method.specs.Sheet.{State, begun, most, need, rowOf, rows, rows, sheet, steps}
+use Rattle.method.specs.Sheet.{State, begun, most, need, rowOf, rows, sheet, steps}
 
 -- the same records in another file order: each record of one file stands at a place of the other, there and back
 pub record Rearranged (cs ds : List Circuit) : Type 0 where

@@ -8,7 +8,7 @@ use mathlib.Core.List.{List, [], _++_, _∷_}
 use Rattle.basics.specs.Tools.{any, each, sum}
 use Rattle.records.specs.declared.Circuit.{Circuit}
 use Rattle.method.specs.Line.{Assignment, Fibre, Plan, circuit, over, overlap}
-use Rattle.method.specs.Sheet.{most, need, rows, rows}
+use Rattle.method.specs.Sheet.{most, need, rows}
 
 -- RUNS. Link i joins the run that starts at i + 1, if there is one, and else is a run of its own
 unfoldable pub join : ℕ → ℕ → List Fibre → List Fibre
