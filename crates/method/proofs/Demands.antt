@@ -7,7 +7,6 @@ use Rattle.method.specs.Demands.{Demand2, Demand3, OwnLinks, during, inR
 use Rattle.method.specs.Fibres.{fibres, pairs}
 use Rattle.method.specs.Line.{Lies, over}
 use Rattle.method.specs.Sheet.{most, rows}
-use Rattle.method.proofs.AnyOrder.{any-order}
 use Rattle.method.proofs.Bound.{floor-least, need-fits}
 use Rattle.method.proofs.During.{own-during}
 use Rattle.method.proofs.Few.{few-pairs}
@@ -17,6 +16,7 @@ use Rattle.method.proofs.Intervals.{at-most-two, lasts-differ, none-wit
 use Rattle.method.proofs.Lengths.{OnLine, fibres-on, plan-over, plan-total}
 use Rattle.method.proofs.Links.{lay}
 use Rattle.method.proofs.Placed.{after, few-rows}
+use Rattle.method.proofs.Rearranged.{any-order}
 use Rattle.method.proofs.ValidPlan.{final, first-any-run, is-placed, plan-valid}
 
 pub demand-2 : (n w : ℕ) (cs : List Circuit) → Lies n cs → 1 ≤ w → Demand2 n w cs

@@ -1,9 +1,11 @@
 -- How many fibres pass over a link, and how long they are together. Assumes nothing.
-use Prim.Native.Nat.{_*_, _-_, _≤_, max, min, suc, zero, ℕ}
+use Prim.Native.Nat.{_*_, _+_, _-_, _≤_, max, min, suc, zero, ℕ}
 use borrow.Author.Tests.{leb-false, leb-true}
+use lib.ListN.{getD}
 use mathlib.Core.Bool.{Bool, cond}
 use mathlib.Core.List.{List, [], _∷_}
-use mathlib.Core.Path.{_∙_, _≡_, sym}
+use mathlib.Core.Logic.{_≢_}
+use mathlib.Core.Path.{_∙_, _≡_, ap, refl, sym}
 use native.Mathlib.Omega.{arith}
 use Rattle.basics.specs.Tools.{sum, top}
 use Rattle.basics.proofs.Bools.{by-le, on}
@@ -11,7 +13,7 @@ use Rattle.basics.proofs.Counts.{le-top}
 use Rattle.basics.proofs.Sums.{sum-add, sum-eq, sum-twice, sum-zero}
 use Rattle.records.specs.declared.Circuit.{Circuit}
 use Rattle.method.specs.Fibres.{fibres, floor, inLayer, layer, layers, pairs, runs}
-use Rattle.method.specs.Line.{Fibre, fibresOver, over, spanLength, tally, total}
+use Rattle.method.specs.Line.{Fibre, fibresOver, noFibre, over, spanLength, tally, total}
 use Rattle.method.specs.Sheet.{most, need}
 use Rattle.method.proofs.FibreLists.{All, all-append, all-imp, tally-append, twice-all, twice-tally}
 use Rattle.method.proofs.Runs.{Maximal, over-left, over-of, over-right, runs-in, runs-maximal}
@@ -33,6 +35,22 @@ unfolding fibresOver tally total spanLength
 sum-total-le [] n = omega (arith, sum-zero n)
 sum-total-le (f ∷ fs) n =
     omega (arith, sum-add (λ i. cond (over f i) 1 0) (λ i. tally (λ g. over g i) fs) n, sum-over f n, sum-total-le fs n)
+
+-- no fibre of a list is longer than the list
+one-total : (fs : List Fibre) (q : ℕ) → spanLength (getD fs q noFibre) ≤ total fs
+unfolding total spanLength
+one-total [] q = omega arith
+one-total (f ∷ fs) zero = omega arith
+one-total (f ∷ fs) (suc q) = omega (arith, one-total fs q)
+
+-- nor are two fibres at different places together
+pub two-total : (fs : List Fibre) (q r : ℕ) → q ≢ r → spanLength (getD fs q noFibre) + spanLength (getD fs r noFibre) ≤ total fs
+unfolding total spanLength
+two-total [] q r d = omega arith
+two-total (f ∷ fs) zero zero d = absurd (d refl)
+two-total (f ∷ fs) zero (suc r) d = omega (arith, one-total fs r)
+two-total (f ∷ fs) (suc q) zero d = omega (arith, one-total fs q)
+two-total (f ∷ fs) (suc q) (suc r) d = omega (arith, two-total fs q r (λ e. d (ap suc e)))
 
 -- a fibre lies on the line
 abbrev pub OnLine : ℕ → Fibre → Type 0

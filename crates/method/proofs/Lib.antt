@@ -15,5 +15,7 @@ pub mod ValidPlan
 pub mod Bound
 pub mod Few
 pub mod Order
-pub mod AnyOrder
+pub mod Rearranged
 pub mod Demands
+pub mod BenchPlans
+pub mod Bench

@@ -1,16 +1,16 @@
 -- Bench cases 1 to 8, and a table of our own with the slips that they miss. `proofs/Bench.antt` shows that each holds.
 -- Assumes nothing.
-use Prim.Native.Nat.{ℕ, _≤_, _<_}
-use mathlib.Core.Bool.{Bool, true}
-use mathlib.Core.Path.{_≡_}
-use mathlib.Core.Logic.{_≢_}
-use mathlib.Core.List.{List, [], _∷_}
+use Prim.Native.Nat.{_<_, _≤_, ℕ}
 use lib.ListN.{length}
+use mathlib.Core.Bool.{Bool, true}
+use mathlib.Core.List.{List, [], _∷_}
+use mathlib.Core.Logic.{_≢_}
+use mathlib.Core.Path.{_≡_}
 use Rattle.records.specs.declared.Circuit.{Circuit}
-use Rattle.method.specs.Line.{circuit, uses, Lies, Fibre, total, Assignment, Plan, Valid}
-use Rattle.method.specs.Sheet.{load}
-use Rattle.method.specs.Fibres.{floor, plan}
 use Rattle.method.specs.Demands.{during, inRow}
+use Rattle.method.specs.Fibres.{assignments, fibres, floor, layer, plan}
+use Rattle.method.specs.Line.{Assignment, Fibre, Lies, Plan, Valid, circuit, total, uses}
+use Rattle.method.specs.Sheet.{load}
 
 -- what a case says: the plan with its total and floor; the least valid length; circuits that are no row
 pub data Case : Type 0 where
@@ -65,6 +65,14 @@ f a b h = record { first = a; last = b; layer = h }
 abbrev pub g : ℕ → ℕ → Assignment
 g q v = record { fibre = q; wavelength = v }
 
+-- the three circuits of case 5
+abbrev pub three : List Circuit
+three = c 1 1 3 ∷ c 2 1 2 ∷ c 3 2 3 ∷ []
+
+-- the four circuits of the clash
+abbrev pub clashing : List Circuit
+clashing = c 1 1 2 ∷ c 2 2 4 ∷ c 3 5 6 ∷ c 4 4 9 ∷ []
+
 -- cases 1 to 8; the least valid length of case 5 stands after it
 unfoldable pub cases : List Case
 cases =
@@ -72,19 +80,24 @@ cases =
     planned 1 1 (c 7 1 1 ∷ []) (f 1 1 1 ∷ f 1 1 1 ∷ []) (g 1 1 ∷ []) 2 1 ∷
     planned 1 2 (c 1 1 1 ∷ c 2 1 1 ∷ c 3 1 1 ∷ []) (f 1 1 1 ∷ f 1 1 1 ∷ f 1 1 2 ∷ f 1 1 2 ∷ []) (g 1 1 ∷ g 1 2 ∷ g 3 1 ∷ []) 4 2 ∷
     planned 3 1 (c 1 1 1 ∷ c 2 3 3 ∷ []) (f 1 1 1 ∷ f 1 1 1 ∷ f 3 3 1 ∷ f 3 3 1 ∷ []) (g 1 1 ∷ g 3 1 ∷ []) 4 2 ∷
-    planned 3 2 (c 1 1 3 ∷ c 2 1 2 ∷ c 3 2 3 ∷ []) (f 2 2 1 ∷ f 2 2 1 ∷ f 1 3 2 ∷ f 1 3 2 ∷ []) (g 3 2 ∷ g 3 1 ∷ g 4 1 ∷ []) 8 4 ∷
-    least 2 (c 1 1 3 ∷ c 2 1 2 ∷ c 3 2 3 ∷ []) 5 ∷
+    planned 3 2 three (f 2 2 1 ∷ f 2 2 1 ∷ f 1 3 2 ∷ f 1 3 2 ∷ []) (g 3 2 ∷ g 3 1 ∷ g 4 1 ∷ []) 8 4 ∷
+    least 2 three 5 ∷
     planned 5 2 (c 10 1 3 ∷ c 20 2 5 ∷ c 30 1 2 ∷ c 40 4 5 ∷ []) (f 2 2 1 ∷ f 2 2 1 ∷ f 1 5 2 ∷ f 1 5 2 ∷ []) (g 3 2 ∷ g 4 1 ∷ g 3 1 ∷ g 3 2 ∷ []) 12 6 ∷
     planned 5 2 (c 40 4 5 ∷ c 30 1 2 ∷ c 20 2 5 ∷ c 10 1 3 ∷ []) (f 2 2 1 ∷ f 2 2 1 ∷ f 1 5 2 ∷ f 1 5 2 ∷ []) (g 3 2 ∷ g 3 1 ∷ g 4 1 ∷ g 3 2 ∷ []) 12 6 ∷
-    noRow (c 1 1 2 ∷ c 2 2 4 ∷ c 3 5 6 ∷ c 4 4 9 ∷ []) 2 3 ∷
+    noRow clashing 2 3 ∷
     []
 
--- what cases 1 to 8 let pass: the rightmost run first; the longest run first; the lowest first link and then the number; the second fibre to one that meets any
--- earlier circuit
+-- Slips that cases 1 to 8 let pass, in this order: the rightmost run first; the longest run first; the lowest first link, then the number; the second fibre to
+-- one that meets any earlier circuit; what stays open left of a placed circuit is forgotten; the shortest run first, or crossed blue links made open; the
+-- longest run of a layer numbered first; no more steps in a row than circuits
 unfoldable pub slips : List Case
 slips =
     planned 3 2 (c 1 1 3 ∷ c 2 1 2 ∷ c 3 2 2 ∷ []) (f 2 2 1 ∷ f 2 2 1 ∷ f 1 3 2 ∷ f 1 3 2 ∷ []) (g 3 2 ∷ g 3 1 ∷ g 1 1 ∷ []) 8 4 ∷
     planned 4 2 (c 1 1 3 ∷ c 2 2 2 ∷ c 3 2 4 ∷ []) (f 2 2 1 ∷ f 2 2 1 ∷ f 1 4 2 ∷ f 1 4 2 ∷ []) (g 3 1 ∷ g 1 1 ∷ g 3 2 ∷ []) 10 5 ∷
     planned 2 2 (c 1 2 2 ∷ c 2 1 2 ∷ []) (f 1 2 1 ∷ f 1 2 1 ∷ []) (g 1 1 ∷ g 1 2 ∷ []) 4 2 ∷
     planned 5 1 (c 1 4 5 ∷ c 2 1 2 ∷ c 3 2 4 ∷ []) (f 2 2 1 ∷ f 2 2 1 ∷ f 4 4 1 ∷ f 4 4 1 ∷ f 1 5 2 ∷ f 1 5 2 ∷ []) (g 5 1 ∷ g 5 1 ∷ g 6 1 ∷ []) 14 7 ∷
+    planned 3 1 (c 1 1 3 ∷ c 2 1 1 ∷ c 3 3 3 ∷ c 4 2 2 ∷ []) (f 1 3 1 ∷ f 1 3 1 ∷ f 1 3 2 ∷ f 1 3 2 ∷ []) (g 1 1 ∷ g 3 1 ∷ g 3 1 ∷ g 3 1 ∷ []) 12 6 ∷
+    planned 5 1 (c 1 1 4 ∷ c 2 2 5 ∷ c 3 4 5 ∷ []) (f 4 4 1 ∷ f 4 4 1 ∷ f 2 5 2 ∷ f 2 5 2 ∷ f 1 5 3 ∷ f 1 5 3 ∷ []) (g 5 1 ∷ g 3 1 ∷ g 6 1 ∷ []) 20 10 ∷
+    planned 5 1 (c 1 2 4 ∷ c 2 1 1 ∷ c 3 1 1 ∷ c 4 3 5 ∷ []) (f 1 1 1 ∷ f 1 1 1 ∷ f 3 4 1 ∷ f 3 4 1 ∷ f 1 5 2 ∷ f 1 5 2 ∷ []) (g 5 1 ∷ g 1 1 ∷ g 5 1 ∷ g 6 1 ∷ []) 16 8 ∷
+    planned 5 2 (c 1 2 2 ∷ c 2 1 3 ∷ c 3 5 5 ∷ []) (f 1 3 1 ∷ f 1 3 1 ∷ f 5 5 1 ∷ f 5 5 1 ∷ []) (g 1 1 ∷ g 1 2 ∷ g 3 1 ∷ []) 8 4 ∷
     []
