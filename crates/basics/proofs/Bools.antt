@@ -24,15 +24,17 @@ by-le a b f g = on (leb a b) (λ e. f (leb-true a b e)) (λ e. g (leb-false a b 
 pub clash : {C : Type 0} (b : Bool) → b ≡ true → b ≡ false → C
 clash b p q = let z : _≡_ {A = ℕ} 0 1 = cc in absurd (omega arith)
 
--- what `&&` says
+-- both hold, so the first does
 pub and-l : (a b : Bool) → a && b ≡ true → a ≡ true
 and-l true b e = refl
 and-l false b e = e
 
+-- and the second
 pub and-r : (a b : Bool) → a && b ≡ true → b ≡ true
 and-r true b e = e
 and-r false b e = clash false e refl
 
+-- each holds, so both do
 pub and-of : (a b : Bool) → a ≡ true → b ≡ true → a && b ≡ true
 and-of a b p q = cc
 
@@ -41,22 +43,26 @@ pub and-none : (a b : Bool) → a && false && b ≡ false
 and-none true b = refl
 and-none false b = refl
 
--- what `||` says
+-- one of two holds
 pub or-cases : (a b : Bool) → a || b ≡ true → (a ≡ true) ⊎ (b ≡ true)
 or-cases true b e = inl refl
 or-cases false b e = inr e
 
+-- the first holds, so one does
 pub or-l : (a b : Bool) → a ≡ true → a || b ≡ true
 or-l a b e = cc
 
+-- the second holds, so one does
 pub or-r : (a b : Bool) → b ≡ true → a || b ≡ true
 or-r true b e = refl
 or-r false b e = e
 
+-- none holds, so the first does not
 pub or-false-l : (a b : Bool) → a || b ≡ false → a ≡ false
 or-false-l true b e = clash true refl e
 or-false-l false b e = refl
 
+-- nor the second
 pub or-false-r : (a b : Bool) → a || b ≡ false → b ≡ false
 or-false-r true b e = clash true refl e
 or-false-r false b e = e

@@ -44,6 +44,7 @@ unfolding sum
 sum-one x zero = omega arith
 sum-one x (suc n) = by-eq x (suc n) (λ e. rw (eq-eqb x (suc n) e) (omega (arith, sum-none n (omega arith)))) (λ e. rw (ne-eqb x (suc n) e) (omega (arith, sum-one x n)))
   where
+    -- none below x is x
     sum-none : (m : ℕ) → m < x → sum (λ l. cond (eqb x l) 1 0) m ≡ 0
     sum-none zero h = refl
     sum-none (suc m) h = rw (ne-eqb x (suc m) (omega arith)) (omega (arith, sum-none m (omega arith)))

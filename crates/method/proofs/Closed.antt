@@ -16,8 +16,8 @@ use Rattle.method.proofs.Colours.{fits-meets, fits-real, from-open, fro
 use Rattle.method.proofs.Links.{Lay, proper}
 use Rattle.method.proofs.Steps.{blued, painted-cell, placed-cell, step-cases, took}
 
--- how many links are open
 module _ (n : ℕ) where
+  -- how many links are open
   pub opens : State → ℕ
   opens s = count (λ i. eqb (at (s .colours) (suc i)) open') n
 
@@ -70,6 +70,7 @@ module _ (n : ℕ) (cs : List Circuit) where
         inl (fall s (act n cs k s (some j)) (λ i a b t. ⊎-elim (λ u. u .0) (λ u. sym u ∙ t) (placed-cell n cs k s i a b j)) (x .0) (a .0) (a .1) (run-open n (s .colours) (x .0) (x .2))
         (omega (arith, took n cs k s (x .0) (a .0) (a .1) j (x .2) (x .1)))))
       where
+        -- no run, so none is open
         closed : n < runFrom n (s .colours) → opens n s ≡ 0
         closed l = count-none _ n (λ i h. ne-eqb _ _ (none-open n (s .colours) l (suc i) (omega arith) (omega arith)))
 

@@ -19,6 +19,7 @@ use Rattle.method.proofs.Placed.{after, few-rows}
 use Rattle.method.proofs.Rearranged.{any-order}
 use Rattle.method.proofs.ValidPlan.{final, first-any-run, is-placed, plan-valid}
 
+-- the plan is valid, carries every circuit, and does not depend on file order
 pub demand-2 : (n w : ℕ) (cs : List Circuit) → Lies n cs → 1 ≤ w → Demand2 n w cs
 unfolding rows final fibres
 demand-2 n w cs lies pos =
@@ -31,6 +32,7 @@ demand-2 n w cs lies pos =
       run-idle = first-any-run n w cs lies pos;
     }
 
+-- the rows are as demanded, and the plan is at most twice any valid one
 pub demand-3 : (n w : ℕ) (cs : List Circuit) → Lies n cs → 1 ≤ w → Demand3 n w cs
 unfolding fibres
 demand-3 n w cs lies pos =

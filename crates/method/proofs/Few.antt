@@ -22,6 +22,7 @@ use Rattle.method.proofs.Lengths.{OnLine, layers-on}
 use Rattle.method.proofs.Links.{Lay, on-line, uses-first, uses-last, uses-of}
 use Rattle.method.proofs.Runs.{Maximal, Starts, runs-maximal, runs-start}
 
+-- whether a fibre ends at link l
 ends : ℕ → Fibre → Bool
 ends l f = eqb (f .last) l
 
@@ -38,6 +39,7 @@ runs-last h p i (suc k) l e b =
     let ih : tally (ends l) (runs h p (suc i) k) ≤ cond (p l && not (p (suc l))) 1 0 = runs-last h p (suc i) k l e' (omega arith) in
     on (p i) (λ t. rw t (past q (runs h p (suc i) k) ih)) (λ t. rw t ih))
   where
+    -- the link past the last one
     e' : p (suc i + k) ≡ false
     e' = ap p (omega arith) ∙ e
 
@@ -45,11 +47,13 @@ runs-last h p i (suc k) l e b =
     later : l ≡ i → tally (ends l) (runs h p (suc i) k) ≡ 0
     later q = tally-none (ends l) (runs h p (suc i) k) (all-imp {P = Maximal h p (suc i) k} {Q = λ f. ends l f ≡ false} (λ f m. ne-eqb (f .last) l (omega (arith, m .from, m .some))) (runs h p (suc i) k) (runs-maximal h p (suc i) k))
 
+    -- no run starts next to link i, so the next link does not pass
     stops : (Starts (suc i) (runs h p (suc i) k) → ⊥) → p (suc i) ≡ false
     stops no-start =
         by-eq k 0 (λ z. ap p (omega arith) ∙ e)
         (λ z. on (p (suc i)) (λ t. absurd (no-start (runs-start h p (suc i) k (omega arith) t))) (λ t. t))
 
+    -- link i joins, and l is i
     here : l ≡ i → p i ≡ true → (fs : List Fibre) → runs h p (suc i) k ≡ fs → tally (ends l) (runs h p (suc i) k) ≡ 0 → tally (ends l) (join h i fs) ≤ cond (p l && not (p (suc l))) 1 0
     here q t [] r z =
         let a : p l ≡ true = ap p q ∙ t in
@@ -63,10 +67,12 @@ runs-last h p i (suc k) l e b =
         let b' : p (suc l) ≡ false = ap (λ x. p (suc x)) q ∙ stops (λ v. eqb-false _ _ u (rw r at v)) in
         rw (u, a, b', eq-eqb i l (sym q)) (omega arith))
 
+    -- link i joins, and l lies further right
     past : l ≢ i → (fs : List Fibre) → tally (ends l) fs ≤ cond (p l && not (p (suc l))) 1 0 → tally (ends l) (join h i fs) ≤ cond (p l && not (p (suc l))) 1 0
     past q [] ih = rw (ne-eqb i l (λ u. q (sym u))) (omega arith)
     past q (f ∷ fs) ih = on (eqb (f .first) (suc i)) (λ u. rw u ih) (λ u. rw (u, ne-eqb i l (λ u. q (sym u))) (omega arith))
 
+-- a list's length, counted by the last links
 by-ends : (fs : List Fibre) (n : ℕ) → All (OnLine n) fs → length fs ≤ sum (λ l. tally (ends l) fs) n
 unfolding tally ends
 by-ends [] n a = omega arith
@@ -80,6 +86,7 @@ by-ends (f ∷ fs) n a =
 ending : List Circuit → ℕ → ℕ
 ending cs l = count (λ j. eqb ((circuit cs j) .last) l) (length cs)
 
+-- each circuit ends once
 ending-all : (cs : List Circuit) (n : ℕ) → sum (ending cs) n ≤ length cs
 unfolding ending count
 ending-all cs n = go (length cs)
@@ -89,19 +96,23 @@ ending-all cs n = go (length cs)
     go (suc m) =
         omega (arith, sum-add (λ l. cond (eqb ((circuit cs m) .last) l) 1 0) (λ l. count (λ j. eqb ((circuit cs j) .last) l) m) n, sum-one ((circuit cs m) .last) n, go m)
 
--- the arithmetic of a layer
+-- the arithmetic of a layer: a link in layer h + 1
 up-to : (M h x : ℕ) → suc h ≤ M → suc M - suc h ≤ x → M - x ≤ h
 up-to M h x a b = omega arith
 
+-- a link not in it
 beyond : (M h x : ℕ) → suc h ≤ M → x < suc M - suc h → suc h ≤ M - x
 beyond M h x a b = omega arith
 
+-- a layer in which a run ends
 one-more : (h A B T R : ℕ) → T ≤ min h B - A → R ≤ 1 → A ≤ h → suc h ≤ B → T + R ≤ min (suc h) B - A
 one-more h A B T R a b c d = omega arith
 
+-- a layer in which none does
 no-more : (h A B T R : ℕ) → T ≤ min h B - A → R ≤ 0 → T + R ≤ min (suc h) B - A
 no-more h A B T R a b = omega arith
 
+-- all layers together
 at-most : (M c c' e T : ℕ) → T ≤ min M (M - c') - (M - c) → c ≤ c' + e → c ≤ M → T ≤ e
 at-most M c c' e T a b d = omega arith
 
@@ -113,6 +124,7 @@ module _ (n w : ℕ) (cs : List Circuit) (lies : Lay n cs) (pos : 1 ≤ w) where
       count-or _ _ _ (length cs)
       (λ j b u e. let d : (circuit cs j) .last ≢ l = eqb-false _ _ e in uses-of (circuit cs j) (suc l) (omega (arith, uses-first (circuit cs j) l u)) (omega (arith, uses-last (circuit cs j) l u)))
 
+  -- c falls from link l to the next by at most the circuits that end at l
   need-step : (l : ℕ) → need w cs l ≤ need w cs (suc l) + ending cs l
   unfolding need
   need-step l =
@@ -123,12 +135,14 @@ module _ (n w : ℕ) (cs : List Circuit) (lies : Lay n cs) (pos : 1 ≤ w) where
       let z : (load cs l + (w - 1)) / w < suc (q + s) = div-lt-iff-lt-mul {k = w} {x = load cs l + (w - 1)} {y = suc (q + s)} pos .1 (omega (arith, load-step l)) in
       omega arith
 
+  -- nobody is past the line
   need-past : need w cs (suc n) ≡ 0
   unfolding need load
   need-past =
       rw (count-none (λ j. uses (circuit cs j) (suc n)) (length cs) (λ j b. on (uses (circuit cs j) (suc n)) (λ u. absurd (omega (arith, on-line n cs lies j (suc n) u))) (λ u. u)))
       (div-eq-of-lt (omega arith))
 
+  -- so many runs of layers 1 to h end at link l
   layers-end : (l : ℕ) → 1 ≤ l → l ≤ n → (h : ℕ) → h ≤ most n w cs → tally (ends l) (layers n w cs h) ≤ min h (most n w cs - need w cs (suc l)) - (most n w cs - need w cs l)
   unfolding layers layer inLayer tally
   layers-end l a b zero c = omega arith
@@ -146,7 +160,7 @@ module _ (n w : ℕ) (cs : List Circuit) (lies : Lay n cs) (pos : 1 ≤ w) where
       (beyond (most n w cs) h (need w cs (suc l)) c (leb-false (suc (most n w cs) - suc h) (need w cs (suc l)) u))))
       (λ t. no-more h _ _ _ _ ih (rw t at r)))
 
-  -- T8: no more pairs than circuits
+  -- no more pairs than circuits
   pub few-pairs : length (pairs n w cs) ≤ length cs
   unfolding pairs most
   few-pairs =

@@ -121,6 +121,7 @@ module _ (cs : List Circuit) (rows : List ℕ) (run : ℕ → ℕ) (one-run : (d
       let same : any (in-way run) (length cs) ≡ any (in-way (λ d. 0)) (length cs) = any-eq (in-way run) (in-way (λ d. 0)) (length cs) (λ d b. alike d b (swept e d b)) in
       ap₂ (λ (a b : Bool). cond (eqb ((circuit cs j) .last) (suc e)) (not a) b) same (swept e j l)
     where
+      -- whoever stands in the way with the run does so without
       alike : (d : ℕ) → d < length cs → {x y : Bool} → x ≡ y
           → (eqb (getD rows d 0) (getD rows j 0) && eqb (run d) (run j)) && leb ((circuit cs d) .last) e && overlap (circuit cs d) (circuit cs j) && x
           ≡ (eqb (getD rows d 0) (getD rows j 0) && eqb 0 0) && leb ((circuit cs d) .last) e && overlap (circuit cs d) (circuit cs j) && y

@@ -2,14 +2,14 @@
 use Prim.Native.Nat.{_*_, _+_, _-_, _/_, _<_, _≤_, suc, zero, ℕ}
 use borrow.Author.Tests.{ne-eqb}
 use lib.Dec.{eqb, leb}
-use lib.ListN.{List·getD-eq-default, getD, getD-replicate, length, length-replicate, replicate}
+use lib.ListN.{getD, length, length-replicate}
 use mathlib.Core.Bool.{Bool, _&&_, cond, false, not, true}
-use mathlib.Core.List.{List}
+use mathlib.Core.List.{List, _++_}
 use mathlib.Core.Option.{Option, none, some}
 use mathlib.Core.Path.{_∙_, _≡_, ap, ap₂, fun-ext, refl, subst, sym}
 use native.Mathlib.Omega.{arith}
 use Rattle.basics.specs.Tools.{any, each, sum, top}
-use Rattle.basics.proofs.Bools.{and-r, by-eq, by-le, clash, on}
+use Rattle.basics.proofs.Bools.{and-r, by-eq, clash, on}
 use Rattle.basics.proofs.Counts.{pigeonhole}
 use Rattle.basics.proofs.Searches.{IsLowest, any-false, any-true, lowest-none, lowest-some}
 use Rattle.basics.proofs.Tables.{getD-each}
@@ -21,29 +21,8 @@ use Rattle.method.proofs.Colours.{fits-real}
 use Rattle.method.proofs.Links.{uses-first, uses-last}
 use Rattle.method.proofs.Placed.{all-waiting}
 use Rattle.method.proofs.Steps.{new-row, old-row, some-length}
--- The same circuits in another file order, with or without gaps, have the same plan. Assumes nothing.
-use Prim.Native.Nat.{_*_, _+_, _-_, _/_, _<_, _≤_, suc, zero, ℕ}
-use borrow.Author.Tests.{ne-eqb}
-use lib.Dec.{eqb, leb}
-use lib.ListN.{List·getD-eq-default, getD, getD-replicate, length, length-replicate, replicate}
-use mathlib.Core.Bool.{Bool, _&&_, cond, false, not, true}
-use mathlib.Core.List.{List, _++_}
-use mathlib.Core.Option.{Option, none, some}
-use mathlib.Core.Path.{_∙_, _≡_, ap, ap₂, fun-ext, refl, subst, sym}
-use native.Mathlib.Omega.{arith}
-use Rattle.basics.specs.Tools.{any, each, sum, top}
-use Rattle.basics.proofs.Bools.{and-r, by-eq, by-le, clash, on}
-use Rattle.basics.proofs.Counts.{pigeonhole}
-use Rattle.basics.proofs.Searches.{IsLowest, any-false, any-true, lowest-none, lowest-some}
-use Rattle.basics.proofs.Tables.{getD-each}
-use Rattle.records.specs.declared.Circuit.{Circuit}
-use Rattle.method.specs.Fibres.{assignments, fibres, find, floor, given, layer, layerOf, layers, onFirst, onFirstBy, pairOf, pairs, plan, runs, twice, wavelengthOf}
-use Rattle.method.specs.Line.{Assignment, assigned, circuit, over, overlap, unassigned, uses}
-use Rattle.method.specs.Sheet.{State, act, at, blue, chosen, fits, fresh, inRun, load, most, need, open', paint, red, redTo, row, rowOf, rows, runFrom, sheet, step, steps, taken}
-use Rattle.method.proofs.Colours.{fits-real}
-use Rattle.method.proofs.Links.{uses-first, uses-last}
-use Rattle.method.proofs.Steps.{new-row, old-row, some-length}
 
+-- the circuit is there: nobody is where the last link is 0
 abbrev pub Real : List Circuit → ℕ → Type 0
 Real cs i = 1 ≤ (circuit cs i) .last
 
@@ -157,7 +136,9 @@ module _ (n w : ℕ) (cs ds : List Circuit) (h : Match cs ds) where
 
   -- nobody fits in both sheets, or the same circuit is chosen
   data Choices (s t : State) : Type 0 where
+    -- nobody fits
     neither : chosen n cs s ≡ none → chosen n ds t ≡ none → Choices s t
+    -- the same circuit is chosen
     both : (i j : ℕ) → Twin i j → chosen n cs s ≡ some i → chosen n ds t ≡ some j → Choices s t
 
   -- that is so in sheets that are alike
@@ -165,18 +146,23 @@ module _ (n w : ℕ) (cs ds : List Circuit) (h : Match cs ds) where
   unfolding chosen
   choices s t a = go (chosen n cs s) refl (chosen n ds t) refl
     where
+      -- who may be chosen in the one sheet
       ok : ℕ → Bool
       ok i = eqb (rowOf s i) 0 && fits n (s .colours) (circuit cs i)
 
+      -- and in the other
       ok' : ℕ → Bool
       ok' j = eqb (rowOf t j) 0 && fits n (t .colours) (circuit ds j)
 
+      -- who may be chosen is there
       ok-real : (i : ℕ) → ok i ≡ true → Real cs i
       ok-real i e = fits-real n (s .colours) (circuit cs i) (and-r (eqb (rowOf s i) 0) _ e)
 
+      -- in the other too
       ok-real' : (j : ℕ) → ok' j ≡ true → Real ds j
       ok-real' j e = fits-real n (t .colours) (circuit ds j) (and-r (eqb (rowOf t j) 0) _ e)
 
+      -- the same circuit may be chosen in both
       same : (i j : ℕ) → Twin i j → ok i ≡ ok' j
       same i j c = ap₂ _&&_ (ap (λ m. eqb m 0) (a .marked i j c)) (ap₂ (fits n) (a .colours) (c .same))
 
@@ -297,10 +283,11 @@ module _ (n w : ℕ) (cs ds : List Circuit) (h : Match cs ds) where
       ap₂ (λ (r : ℕ) (d : Circuit). find (λ f. eqb (f .layer) (layerOf w r) && over f (d .first)) (pairs n w cs)) (rows-match i j c) (c .same)
       ∙ ap (find (λ f. eqb (f .layer) (layerOf w (getD (rows n w ds) j 0)) && over f ((circuit ds j) .first))) pairs-same
 
-  -- the rows and runs of the two files
+  -- first or second, in the sweep of the one file
   abbrev first-cs : ℕ → ℕ → Bool
   first-cs = onFirstBy cs (rows n w cs) (pairOf n w cs (rows n w cs))
 
+  -- and of the other
   abbrev first-ds : ℕ → ℕ → Bool
   first-ds = onFirstBy ds (rows n w ds) (pairOf n w ds (rows n w ds))
 
@@ -326,6 +313,7 @@ module _ (n w : ℕ) (cs ds : List Circuit) (h : Match cs ds) where
       inner in
       three (eqb ((circuit cs i) .last) (suc e)) (eqb ((circuit ds j) .last) (suc e)) (ap (λ d. eqb (d .last) (suc e)) (c .same)) a (swept-same e i j c)
     where
+      -- a test and its two answers
       three : (x x' : Bool) {y y' z z' : Bool} → x ≡ x' → y ≡ y' → z ≡ z' → cond x (not y) z ≡ cond x' (not y') z'
       three x x' e f g = cc
 

@@ -58,6 +58,7 @@ module _ (n : ℕ) (cs : List Circuit) where
           dull = λ j h i u. by-eq j j₀ (λ e. dull-new i (rw e at u)) (λ e. dull-old j i u (sym (old-row n cs k s j₀ j e) ∙ h));
         }
       where
+        -- the state after placing j₀
         s' : State
         s' = act n cs k s (some j₀)
 

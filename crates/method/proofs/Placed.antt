@@ -142,6 +142,7 @@ module _ (n w : ℕ) (cs : List Circuit) where
               (λ t. omega (arith, old-row n cs k s j₀ j t, y .clear j i (omega (arith, old-row n cs k s j₀ j t)) u));
         }
       where
+        -- the state after placing j₀
         s' : State
         s' = act n cs k s (some j₀)
 
@@ -247,12 +248,15 @@ module _ (n w : ℕ) (cs : List Circuit) where
           own = λ j h. let o = r .own j h in (o .0, o .1);
         }
       where
+        -- the state at the end of the row
         end : State
         end = steps n cs n (suc k) (begun n w cs (suc k) s)
 
+        -- what holds then
         g : Going (suc k) (begun n w cs (suc k) s) end
         g = row-going lies (suc k) (omega arith) (begun n w cs (suc k) s) n (begun n w cs (suc k) s) begin-going
 
+        -- and of own links
         r : Owned cs (suc k) end
         r = row-own n cs lies (suc k) (omega arith) n (begun n w cs (suc k) s) begin-own
 

@@ -72,9 +72,11 @@ runs-maximal h p i (suc k) =
     (λ e. rw e (go e (runs h p (suc i) k) refl (runs-maximal h p (suc i) k)))
     (λ e. rw e (all-imp wider (runs h p (suc i) k) (runs-maximal h p (suc i) k)))
   where
+    -- a run further right is maximal here too
     wider : (f : Fibre) → Maximal h p (suc i) k f → Maximal h p i (suc k) f
     wider f m = record { here = m .here; from = omega (arith, m .from); some = m .some; to = omega (arith, m .to); pass = m .pass; stop = λ l. m .stop (omega arith) }
 
+    -- a run of one link
     single : p i ≡ true → (suc i < i + suc k → p (suc i) ≡ false) → Maximal h p i (suc k) (record { first = i; last = i; layer = h })
     single e s = record { here = refl; from = omega arith; some = omega arith; to = omega arith; pass = λ x a b. (let z : x ≡ i = omega arith in rw z e); stop = s }
 

@@ -12,10 +12,13 @@ use Rattle.method.specs.Fibres.{assignments, fibres, floor, layer, plan}
 use Rattle.method.specs.Line.{Assignment, Fibre, Lies, Plan, Valid, circuit, total, uses}
 use Rattle.method.specs.Sheet.{load}
 
--- what a case says: the plan with its total and floor; the least valid length; circuits that are no row
+-- what a case says
 pub data Case : Type 0 where
+  -- the plan with its total and floor
   planned : (n w : ℕ) → List Circuit → List Fibre → List Assignment → (length floor : ℕ) → Case
+  -- the least valid length
   least : (w : ℕ) → List Circuit → (length : ℕ) → Case
+  -- circuits that are no row of any sheet
   noRow : List Circuit → (inner outer : ℕ) → Case
 
 -- the method plans just this
