@@ -8,7 +8,7 @@ use mathlib.Core.Option.{Option, none, some}
 use mathlib.Core.Path.{_≡_, ap, refl}
 use native.Mathlib.Omega.{arith}
 use Rattle.basics.specs.Tools.{any, better, every, lowest, seek}
-use Rattle.basics.proofs.Bools.{and-l, and-of, and-r, by-eq, clash, on, or-false-l, or-false-r}
+use Rattle.basics.proofs.Bools.{and-l, and-of, and-r, by-eq, by-le, clash, on, or-false-l, or-false-r}
 
 -- each passes, so the one at x does
 pub every-at : (p : ℕ → Bool) (i k : ℕ) → every p i k ≡ true → (x : ℕ) → i ≤ x → x < i + k → p x ≡ true
@@ -155,3 +155,25 @@ pub any-eq : (p q : ℕ → Bool) (m : ℕ) → ((j : ℕ) → j < m → p j ≡
 unfolding any
 any-eq p q zero h = refl
 any-eq p q (suc m) h = rw (h m (omega arith), any-eq p q m (λ j l. h j (omega arith)))
+
+-- what passes, with none before it that does, is what is found
+pub seek-first : (p : ℕ → Bool) (i k x : ℕ) → i ≤ x → x < i + k → p x ≡ true → ((y : ℕ) → i ≤ y → y < x → p y ≡ false) → seek p i k ≡ x
+seek-first p i k x a b t h =
+    by-le (seek p i k) x
+    (λ l. by-le x (seek p i k) (λ g. omega arith)
+    (λ g. clash (p (seek p i k)) (seek-hit p i k (omega arith)) (h (seek p i k) (seek-ge p i k) g)))
+    (λ l. clash (p x) t (seek-miss p i k x a l))
+
+-- none passes, so the end is found
+pub seek-none : (p : ℕ → Bool) (i k : ℕ) → ((y : ℕ) → i ≤ y → y < i + k → p y ≡ false) → seek p i k ≡ i + k
+seek-none p i k h =
+    by-le (i + k) (seek p i k) (λ l. omega (arith, seek-le p i k))
+    (λ l. clash (p (seek p i k)) (seek-hit p i k l) (h (seek p i k) (seek-ge p i k) l))
+
+-- one passes, so some does
+pub any-hit : (p : ℕ → Bool) (m j : ℕ) → j < m → p j ≡ true → any p m ≡ true
+any-hit p m j h t = on (any p m) (λ e. e) (λ e. clash (p j) t (any-false p m e j h))
+
+-- none of them passes, so none does
+pub any-none : (p : ℕ → Bool) (m : ℕ) → ((j : ℕ) → j < m → p j ≡ false) → any p m ≡ false
+any-none p m h = on (any p m) (λ e. let r = any-true p m e in clash (p (r .0)) (r .2) (h (r .0) (r .1))) (λ e. e)

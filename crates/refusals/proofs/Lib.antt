@@ -1,0 +1,4 @@
+pub mod FirstLaws
+pub mod First
+pub mod Passed
+pub mod Cases

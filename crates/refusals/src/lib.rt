@@ -1,0 +1,180 @@
+// The tests, one function each: what is refused, with which number and place.
+ghost use mathlib.Core.Path.{_≡_};
+ghost use Prim.Native.Nat.{_+_, _*_, _/_, _≤_};
+ghost use mathlib.Core.Bool.{not, _&&_};
+ghost use lib.ListN.{length};
+ghost use lib.Dec.{leb, ltb};
+ghost use Rattle.refusals.specs.Table.{whenever, badEnds, tested, row1, row2, row3, row4, row5, row6, row7, row8, row9, row10};
+
+// What a test answers: passed, with a number that it found, or refused, with number and place.
+pub enum Test {
+    Checked(usize),
+    Refused { number: u32, place: u32 },
+}
+
+// 1: whole records. What is found: how many.
+pub fn whole(circuits: &[u8]) -> Test
+    ensures { λ r. ⌜ r ≡ tested (row1 (now (circuits .entry))) (length (now (circuits .entry)) / 8) ⌝ }
+{
+    let l = circuits.len();
+    if l % 8 != 0 {
+        return Test::Refused {
+            number: 1,
+            place: 0,
+        };
+    }
+    Test::Checked(l / 8)
+}
+
+// 2: not more than 2,048 circuits.
+pub fn few(m: usize) -> Test
+    ensures { λ r. ⌜ r ≡ tested (row2 m) m ⌝ }
+{
+    if 2048 < m {
+        return Test::Refused {
+            number: 2,
+            place: 0,
+        };
+    }
+    Test::Checked(m)
+}
+
+// A number that is not 1 to the limit is refused.
+fn within(number: u32, x: usize, limit: usize) -> Test
+    ensures { λ r. ⌜ r ≡ tested (record { number = number; place = whenever (not (leb 1 x && leb x limit)) }) x ⌝ }
+{
+    if x < 1 {
+        return Test::Refused { number, place: 0 };
+    }
+    if limit < x {
+        return Test::Refused { number, place: 0 };
+    }
+    Test::Checked(x)
+}
+
+// 3: a line of 1 to `limit` links.
+pub fn line(n: usize, limit: usize) -> Test
+    ensures { λ r. ⌜ r ≡ tested (row3 limit n) n ⌝ }
+{
+    within(3, n, limit)
+}
+
+// 4: 1 to `limit` wavelengths.
+pub fn waves(w: usize, limit: usize) -> Test
+    ensures { λ r. ⌜ r ≡ tested (row4 limit w) w ⌝ }
+{
+    within(4, w, limit)
+}
+
+// 5: no circuit number is 0.
+pub fn numbered(circuits: &[u8], m: usize) -> Test
+    requires { ⌜ (8 * m ≤ length (now circuits)) × (m ≤ 2048) ⌝ }
+    ensures { λ r. ⌜ r ≡ tested (row5 (now (circuits .entry)) m) m ⌝ }
+{
+    for j in 0..m {
+        let c = records::circuit_at(circuits, j);
+        if c.number == 0 {
+            return Test::Refused {
+                number: 5,
+                place: (j + 1) as u32,
+            };
+        }
+    }
+    Test::Checked(m)
+}
+
+fn wide(x: u16) -> usize
+    ensures { λ r. ⌜ r ≡ x ⌝ }
+{
+    x as usize
+}
+
+// Whether a circuit does not lie on a line of n links.
+fn bad_ends(c: records::Circuit, n: usize) -> bool
+    ensures { λ r. ⌜ r ≡ badEnds n c ⌝ }
+{
+    if c.first == 0 {
+        return true;
+    }
+    if c.last < c.first {
+        return true;
+    }
+    n < wide(c.last)
+}
+
+// 6: every circuit lies on the line of n links.
+pub fn on_line(circuits: &[u8], m: usize, n: usize) -> Test
+    requires { ⌜ (8 * m ≤ length (now circuits)) × (m ≤ 2048) ⌝ }
+    ensures { λ r. ⌜ r ≡ tested (row6 n (now (circuits .entry)) m) m ⌝ }
+{
+    for j in 0..m {
+        let c = records::circuit_at(circuits, j);
+        if bad_ends(c, n) {
+            return Test::Refused {
+                number: 6,
+                place: (j + 1) as u32,
+            };
+        }
+    }
+    Test::Checked(m)
+}
+
+// 7: no circuit number stands twice. Every pair of records, until one repeats.
+pub fn unlike(circuits: &[u8], m: usize) -> Test
+    requires { ⌜ (8 * m ≤ length (now circuits)) × (m ≤ 2048) ⌝ }
+    ensures { λ r. ⌜ r ≡ tested (row7 (now (circuits .entry)) m) m ⌝ }
+{
+    let mut place: usize = 0;
+    'pairs: for j in 0..m {
+        let c = records::circuit_at(circuits, j);
+        let x = c.number;
+        for i in 0..j {
+            let d = records::circuit_at(circuits, i);
+            if d.number == x {
+                place = j + 1;
+                break 'pairs;
+            }
+        }
+    }
+    if place == 0 {
+        return Test::Checked(m);
+    }
+    Test::Refused {
+        number: 7,
+        place: place as u32,
+    }
+}
+
+// A lent area that is too short is refused.
+fn room(number: u32, needed: usize, has: usize) -> Test
+    ensures { λ r. ⌜ r ≡ tested (record { number = number; place = whenever (ltb has needed) }) has ⌝ }
+{
+    if has < needed {
+        return Test::Refused { number, place: 0 };
+    }
+    Test::Checked(has)
+}
+
+// 8: the fibre list has `each` bytes for each of m circuits.
+pub fn fibre_room(has: usize, m: usize, each: usize) -> Test
+    requires { ⌜ (m ≤ 2048) × (each ≤ 16) ⌝ }
+    ensures { λ r. ⌜ r ≡ tested (row8 each m has) has ⌝ }
+{
+    room(8, each * m, has)
+}
+
+// 9: the assignment list has 8 bytes for each of m circuits.
+pub fn assignment_room(has: usize, m: usize) -> Test
+    requires { ⌜ m ≤ 2048 ⌝ }
+    ensures { λ r. ⌜ r ≡ tested (row9 m has) has ⌝ }
+{
+    room(9, 8 * m, has)
+}
+
+// 10: the work area has 4 bytes for each link and each circuit.
+pub fn work_room(has: usize, n: usize, m: usize) -> Test
+    requires { ⌜ (n ≤ 512) × (m ≤ 2048) ⌝ }
+    ensures { λ r. ⌜ r ≡ tested (row10 n m has) has ⌝ }
+{
+    room(10, 4 * n + 4 * m, has)
+}
