@@ -66,3 +66,13 @@ or-false-l false b e = refl
 pub or-false-r : (a b : Bool) → a || b ≡ false → b ≡ false
 or-false-r true b e = clash true refl e
 or-false-r false b e = e
+
+-- what never is true is false
+pub never : (b : Bool) → (b ≡ true → ⊥) → b ≡ false
+never true f = absurd (f refl)
+never false f = refl
+
+-- nothing passes together with what fails
+pub and-false : (b : Bool) → b && false ≡ false
+and-false true = refl
+and-false false = refl

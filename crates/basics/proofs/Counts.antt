@@ -1,10 +1,10 @@
 -- Counting. Assumes nothing.
-use Prim.Native.Nat.{_*_, _+_, _/_, _<_, _≤_, max, suc, zero, ℕ}
+use Prim.Native.Nat.{_*_, _+_, _-_, _/_, _<_, _≤_, max, suc, zero, ℕ}
 use borrow.Author.Tests.{eq-eqb, ne-eqb}
 use lib.Dec.{eqb}
 use mathlib.Core.Bool.{Bool, _&&_, cond, false, not, true}
 use mathlib.Core.Logic.{_≢_}
-use mathlib.Core.Path.{_∙_, _≡_, ap, refl}
+use mathlib.Core.Path.{_∙_, _≡_, ap, ap₂, refl}
 use native.Mathlib.Nat.{add-suc, add-zero, div-eq-of-lt, mul-add-div-right, suc-mul, zero-mul}
 use native.Mathlib.Omega.{arith}
 use Rattle.basics.specs.Tools.{count, top}
@@ -151,3 +151,23 @@ top-times f w B (suc n) h =
     by-le (f (suc n)) (top f n)
     (λ l. let e : max (f (suc n)) (top f n) ≡ top f n = omega arith in rw e (top-times f w B n h))
     (λ l. let e : max (f (suc n)) (top f n) ≡ f (suc n) = omega arith in rw e (h (suc n)))
+
+-- one more of what passes
+pub one-more : (t : Bool) (v : ℕ) → cond t (v + 1) v ≡ cond t 1 0 + v
+one-more true v = omega arith
+one-more false v = omega arith
+
+-- two functions that agree from 1 to n have the same largest value
+pub top-same : (f g : ℕ → ℕ) (n : ℕ) → ((x : ℕ) → 1 ≤ x → x ≤ n → f x ≡ g x) → top f n ≡ top g n
+unfolding top
+top-same f g zero h = refl
+top-same f g (suc n) h = ap₂ max (h (suc n) (omega arith) (omega arith)) (top-same f g n (λ x a b. h x a (omega arith)))
+
+-- the largest of f 1 .. f i, from the largest before i
+pub top-more : (f : ℕ → ℕ) (i : ℕ) → 1 ≤ i → top f (i + 1 - 1) ≡ max (f i) (top f (i - 1))
+unfolding top
+top-more f zero h = absurd (omega arith)
+top-more f (suc i) h =
+    let e : suc i + 1 - 1 ≡ suc i = omega arith in
+    let g : suc i - 1 ≡ i = omega arith in
+    rw (e, g)

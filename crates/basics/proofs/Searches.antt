@@ -1,11 +1,12 @@
 -- What `every`, `any`, `seek` and `lowest` find. Assumes nothing.
-use Prim.Native.Nat.{_+_, _<_, _≤_, suc, zero, ℕ}
+use Prim.Native.Nat.{_+_, _-_, _<_, _≤_, suc, zero, ℕ}
 use borrow.Author.Tests.{eqb-false, eqb-true, ltb-false, ltb-true}
 use lib.Dec.{eqb, ltb}
 use mathlib.Core.Bool.{Bool, cond, false, true}
 use mathlib.Core.Logic.{_≢_}
 use mathlib.Core.Option.{Option, none, some}
 use mathlib.Core.Path.{_≡_, ap, refl}
+use native.Mathlib.Numerals.{add-one}
 use native.Mathlib.Omega.{arith}
 use Rattle.basics.specs.Tools.{any, better, every, lowest, seek}
 use Rattle.basics.proofs.Bools.{and-l, and-of, and-r, by-eq, by-le, clash, on, or-false-l, or-false-r}
@@ -177,3 +178,22 @@ any-hit p m j h t = on (any p m) (λ e. e) (λ e. clash (p j) t (any-false p m e
 -- none of them passes, so none does
 pub any-none : (p : ℕ → Bool) (m : ℕ) → ((j : ℕ) → j < m → p j ≡ false) → any p m ≡ false
 any-none p m h = on (any p m) (λ e. let r = any-true p m e in clash (p (r .0)) (r .2) (h (r .0) (r .1))) (λ e. e)
+
+-- place i does not pass: the search up to n goes on at i + 1
+pub seek-next : (p : ℕ → Bool) (i n : ℕ) → i ≤ n → p i ≡ false → seek p i (n + 1 - i) ≡ seek p (i + 1) (n + 1 - (i + 1))
+unfolding seek
+seek-next p i n h e =
+    let k : n + 1 - i ≡ suc (n + 1 - (i + 1)) = omega arith in
+    rw (k, e, add-one i)
+
+-- place i passes: it is found
+pub seek-found : (p : ℕ → Bool) (i n : ℕ) → i ≤ n → p i ≡ true → seek p i (n + 1 - i) ≡ i
+unfolding seek
+seek-found p i n h e =
+    let k : n + 1 - i ≡ suc (n + 1 - (i + 1)) = omega arith in
+    rw (k, e)
+
+-- no place is left
+pub seek-out : (p : ℕ → Bool) (i n : ℕ) → n < i → seek p i (n + 1 - i) ≡ i
+unfolding seek
+seek-out p i n h = let k : n + 1 - i ≡ 0 = omega arith in rw k

@@ -1,7 +1,10 @@
 -- Lists by their elements. Assumes nothing.
 use Prim.Native.Nat.{_+_, _<_, _≤_, suc, zero, ℕ}
-use lib.ListN.{getD, length}
-use mathlib.Core.Path.{_∙_, _≡_, ap, refl}
+use lib.ListN.{getD, length, replicate}
+use lib.Seq.{ext-getD}
+use mathlib.Core.List.{List, _++_, _∷_}
+use mathlib.Core.Path.{_∙_, _≡_, ap, ap₂, refl, sym}
+use native.Mathlib.Nat.{suc-add, zero-add}
 use native.Mathlib.Omega.{arith}
 use Rattle.basics.specs.Tools.{each}
 
@@ -24,3 +27,26 @@ unfolding each
 getD-each-out f s zero i d h = refl
 getD-each-out f s (suc k) zero d h = absurd (omega arith)
 getD-each-out f s (suc k) (suc i) d h = getD-each-out f (suc s) k i d (omega arith)
+
+-- a list that is the function at each place is its table
+pub is-each : {A : Type 0} (f : ℕ → A) (s k : ℕ) (d : A) (C : List A) → length C ≡ k → ((i : ℕ) → i < k → getD C i d ≡ f (s + i)) → C ≡ each f s k
+is-each f s k d C l h =
+    ext-getD d C (each f s k) (l ∙ sym (length-each f s k))
+    (λ i b. let q : i < k = omega arith in h i q ∙ sym (getD-each f s k i d q))
+
+-- two functions that agree from s on have the same table
+pub each-same : {A : Type 0} (f g : ℕ → A) (s k : ℕ) → ((x : ℕ) → s ≤ x → x < s + k → f x ≡ g x) → each f s k ≡ each g s k
+unfolding each
+each-same f g s zero h = refl
+each-same f g s (suc k) h = ap₂ _∷_ (h s (omega arith) (omega arith)) (each-same f g (suc s) k (λ x a b. h x (omega arith) (omega arith)))
+
+-- zeros are the table of the function that is 0
+pub each-zero : (s k : ℕ) → replicate {A = ℕ} k 0 ≡ each (λ x. 0) s k
+unfolding each
+each-zero s zero = refl
+each-zero s (suc k) = ap (λ (l : List ℕ). 0 ∷ l) (each-zero (suc s) k)
+
+-- a zeros, and then b more
+pub zeros-add : (a b : ℕ) → replicate {A = ℕ} (a + b) 0 ≡ replicate a 0 ++ replicate b 0
+zeros-add zero b = rw zero-add
+zeros-add (suc a) b = rw suc-add (ap (λ (l : List ℕ). 0 ∷ l) (zeros-add a b))

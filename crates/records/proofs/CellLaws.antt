@@ -1,6 +1,6 @@
 -- Laws of cells: what a store into a cell and a read of it mean for the list of all cells. Assumes nothing.
-use Prim.Native.Nat.{ℕ, zero, suc, _+_, _*_, _<_}
-use mathlib.Core.Path.{_≡_, refl, ap}
+use Prim.Native.Nat.{ℕ, zero, suc, _+_, _*_, _<_, _≤_}
+use mathlib.Core.Path.{_≡_, refl, ap, _∙_}
 use mathlib.Core.List.{List, [], _∷_}
 use native.Mathlib.Nat.{mod-add-div, not-suc-le-zero}
 use native.Mathlib.Omega.{arith}
@@ -44,3 +44,15 @@ length-cellsOf [] n h = omega arith
 length-cellsOf (x ∷ []) n h = absurd (omega arith)
 length-cellsOf (x ∷ y ∷ t) zero h = absurd (omega arith)
 length-cellsOf (x ∷ y ∷ t) (suc n) h = ap suc (length-cellsOf t n (omega arith))
+
+-- at least 2 n bytes hold at least n cells
+pub cells-room : (b : List ℕ) (n : ℕ) → 2 * n ≤ length b → n ≤ length (cellsOf b)
+unfolding cellsOf
+cells-room b zero h = omega arith
+cells-room [] (suc n) h = absurd (omega arith)
+cells-room (x ∷ []) (suc n) h = absurd (omega arith)
+cells-room (x ∷ y ∷ t) (suc n) h = omega (arith, cells-room t n (omega arith))
+
+-- bytes that are others with one cell stored, by their cells
+pub stored : (b b' : List ℕ) (k v : ℕ) → b' ≡ setCell b k v → cellsOf b' ≡ set (cellsOf b) k v
+stored b b' k v e = ap cellsOf e ∙ cellsOf-set b k v

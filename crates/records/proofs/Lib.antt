@@ -3,3 +3,5 @@ pub mod Encode
 pub mod Parts
 pub mod Inverse
 pub mod Files
+pub mod Series
+pub mod PartCells

@@ -1,0 +1,13 @@
+pub mod Written
+pub mod CircuitLaws
+pub mod LoadLaws
+pub mod AreaLaws
+pub mod ColourLaws
+pub mod RunLaws
+pub mod ChoiceLaws
+pub mod HoldLaws
+pub mod StepLaws
+pub mod RowLoop
+pub mod RowLaws
+pub mod FillLaws
+pub mod FilledLaws

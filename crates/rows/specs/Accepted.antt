@@ -1,0 +1,16 @@
+-- What the tests leave. What a reader must believe.
+-- Assumes nothing.
+use Prim.Native.Nat.{ℕ, _*_, _≤_}
+use mathlib.Core.Path.{_≡_}
+use mathlib.Core.List.{List}
+use lib.ListN.{length}
+use Rattle.records.specs.Records.{circuitsIn}
+use Rattle.method.specs.Line.{Lies}
+
+-- the file s has passed the tests: m circuits, each on the line of n links, and w wavelengths
+pub record Accepted (n w m : ℕ) (s : List ℕ) : Type 0 where
+  pub line : n ≤ 512
+  pub waves : (1 ≤ w) × (w ≤ 80)
+  pub few : m ≤ 2048
+  pub whole : length s ≡ 8 * m
+  pub lies : Lies n (circuitsIn m s)

@@ -1,0 +1,85 @@
+// The load of each link, and c(i), in the first n cells of the work area: link i has cell i - 1.
+ghost use Prim.Native.Nat.{_*_, _<_, _≤_, max};
+ghost use mathlib.Core.Path.{_≡_};
+ghost use lib.ListN.{length, replicate};
+ghost use Rattle.basics.specs.Tools.{each, top};
+ghost use Rattle.method.specs.Line.{Lies};
+ghost use Rattle.method.specs.Sheet.{load, need, most};
+ghost use Rattle.records.specs.Bytes.{cellsOf};
+ghost use Rattle.records.specs.Records.{circuitsIn};
+ghost use Rattle.rows.specs.Accepted.{Accepted};
+ghost use Rattle.rows.specs.Loads.{oneUp, Below, rounded, roundedAt};
+
+// A cell as an index.
+pub fn wide(x: u16) -> usize
+    ensures { λ r. ⌜ (r ≡ x) × (r < 65536) ⌝ }
+{
+    x as usize
+}
+
+// Links a to b one up.
+fn add_one(cells: &mut [u8], n: usize, a: usize, b: usize)
+    requires { ⌜ (length (now cells) ≡ 2 * n) × (1 ≤ a) × (a ≤ b) × (b ≤ n) × (n ≤ 512) × Below 65534 (cellsOf (now cells)) ⌝ }
+    ensures { λ _. ⌜ cellsOf (now (cells .exit)) ≡ oneUp n a b (cellsOf (now (cells .entry))) ⌝ }
+{
+    let e = b + 1;
+    for i in a..e {
+        let v = records::cells::get(cells, i - 1);
+        records::cells::put(cells, i - 1, v + 1);
+    }
+}
+
+// The load of each link.
+fn count_loads(circuits: &[u8], m: usize, cells: &mut [u8], n: usize)
+    requires { ⌜ (length (now circuits) ≡ 8 * m) × (m ≤ 2048) × (length (now cells) ≡ 2 * n) × (n ≤ 512) ⌝ }
+    requires { ⌜ Lies n (circuitsIn m (now circuits)) ⌝ }
+    requires { ⌜ cellsOf (now cells) ≡ replicate n 0 ⌝ }
+    ensures { λ _. ⌜ cellsOf (now (cells .exit)) ≡ each (load (circuitsIn m (now (circuits .entry)))) 1 n ⌝ }
+{
+    for j in 0..m {
+        let c = records::circuit_at(circuits, j);
+        add_one(cells, n, wide(c.first), wide(c.last));
+    }
+}
+
+// A load over w, rounded up.
+fn layers(load: u16, w: usize) -> u16
+    requires { ⌜ (1 ≤ w) × (w ≤ 80) × (load ≤ 2048) ⌝ }
+    ensures { λ r. ⌜ r ≡ rounded w load ⌝ }
+{
+    let c = (wide(load) + (w - 1)) / w;
+    c as u16
+}
+
+// The larger of two cells.
+fn larger(a: u16, b: u16) -> u16
+    ensures { λ r. ⌜ r ≡ max b a ⌝ }
+{
+    if a < b { b } else { a }
+}
+
+// Each load becomes c(i); the largest is handed back.
+fn count_layers(cells: &mut [u8], n: usize, w: usize) -> u16
+    requires { ⌜ (length (now cells) ≡ 2 * n) × (n ≤ 512) × (1 ≤ w) × (w ≤ 80) × Below 2048 (cellsOf (now cells)) ⌝ }
+    ensures { λ r. ⌜ (r ≡ top (roundedAt w (cellsOf (now (cells .entry)))) n) × (cellsOf (now (cells .exit)) ≡ each (roundedAt w (cellsOf (now (cells .entry)))) 1 n) ⌝ }
+{
+    let mut most: u16 = 0;
+    let e = n + 1;
+    for i in 1..e {
+        let v = records::cells::get(cells, i - 1);
+        let c = layers(v, w);
+        records::cells::put(cells, i - 1, c);
+        most = larger(most, c);
+    }
+    most
+}
+
+// c(i) of each link, and M.
+pub fn count_needs(circuits: &[u8], m: usize, cells: &mut [u8], n: usize, w: usize) -> u16
+    requires { ⌜ Accepted n w m (now circuits) ⌝ }
+    requires { ⌜ (length (now cells) ≡ 2 * n) × (cellsOf (now cells) ≡ replicate n 0) ⌝ }
+    ensures { λ r. ⌜ (r ≡ most n w (circuitsIn m (now (circuits .entry)))) × (cellsOf (now (cells .exit)) ≡ each (need w (circuitsIn m (now (circuits .entry)))) 1 n) ⌝ }
+{
+    count_loads(circuits, m, cells, n);
+    count_layers(cells, n, w)
+}

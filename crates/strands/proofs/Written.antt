@@ -1,0 +1,69 @@
+-- What the pairs that are written one after the other leave in the fibre list. Assumes nothing.
+use Prim.Native.Nat.{ℕ, suc, _+_, _*_}
+use mathlib.Core.Path.{_≡_, refl, sym, ap, _∙_}
+use mathlib.Core.List.{List, [], _∷_, _++_, append-assoc, append-nil}
+use native.Mathlib.Omega.{arith}
+use lib.ListN.{length, drop}
+use Rattle.records.specs.Records.{putRecord}
+use Rattle.records.proofs.Series.{putRecord-more, length-more}
+use Rattle.method.specs.Fibres.{twice}
+use Rattle.method.specs.Line.{Fibre}
+use Rattle.strands.specs.Layers.{putFibre, putPair, putPairs, layerBy, layersBy}
+use Rattle.strands.specs.Lists.{fibreRecord, fibreRecords}
+use Rattle.strands.proofs.Walk.{layers-more}
+
+-- pairs after pairs
+pub putPairs-append : (from many : ℕ) (fs gs : List Fibre) (out : List ℕ) → putPairs from many (fs ++ gs) out ≡ putPairs from (many + 2 * length fs) gs (putPairs from many fs out)
+unfolding putPairs
+putPairs-append from many [] gs out = let e : many + 0 ≡ many = omega arith in rw e
+putPairs-append from many (f ∷ fs) gs out =
+    let e : many + 2 * suc (length fs) ≡ many + 2 + 2 * length fs = omega arith in
+    rw e (putPairs-append from (many + 2) fs gs (putPair from many f out))
+
+-- a fibre record has 8 bytes
+pub length-fibreRecord : (number : ℕ) (f : Fibre) → length (fibreRecord number f) ≡ 8
+unfolding fibreRecord
+length-fibreRecord number f = refl
+
+-- one pair after those that are written
+pair-more : (from many : ℕ) (f : Fibre) (d out₀ : List ℕ) → length d ≡ 8 * many
+    → putPair from many f (d ++ drop (8 * many) out₀) ≡ ((d ++ fibreRecord (from + many + 1) f) ++ fibreRecord (from + (many + 1) + 1) f) ++ drop (8 * (many + 1 + 1)) out₀
+unfolding putPair putFibre
+pair-more from many f d out₀ l =
+    let r₁ = fibreRecord (from + many + 1) f in
+    let r₂ = fibreRecord (from + (many + 1) + 1) f in
+    ap (λ o. putRecord o (many + 1) r₂) (putRecord-more d r₁ out₀ many l (length-fibreRecord _ f))
+    ∙ putRecord-more (d ++ r₁) r₂ out₀ (many + 1) (length-more d r₁ many l (length-fibreRecord _ f)) (length-fibreRecord _ f)
+
+-- pairs after d, which fills the first places
+after : (from many : ℕ) (fs : List Fibre) (d out₀ : List ℕ) → length d ≡ 8 * many
+    → putPairs from many fs (d ++ drop (8 * many) out₀) ≡ (d ++ fibreRecords (from + many) (twice fs)) ++ drop (8 * (many + 2 * length fs)) out₀
+unfolding putPairs fibreRecords twice
+after from many [] d out₀ l = let e : many + 0 ≡ many = omega arith in rw (e, append-nil d)
+after from many (f ∷ fs) d out₀ l =
+    let r₁ = fibreRecord (from + many + 1) f in
+    let r₂ = fibreRecord (from + (many + 1) + 1) f in
+    let e : many + 1 + 1 ≡ many + 2 = omega arith in
+    let k : many + 2 + 2 * length fs ≡ many + 2 * suc (length fs) = omega arith in
+    let a : from + (many + 1) + 1 ≡ from + many + 1 + 1 = omega arith in
+    let b : from + (many + 2) ≡ from + many + 1 + 1 = omega arith in
+    let l′ : length ((d ++ r₁) ++ r₂) ≡ 8 * (many + 2) = length-more (d ++ r₁) r₂ (many + 1) (length-more d r₁ many l (length-fibreRecord _ f)) (length-fibreRecord _ f) ∙ omega arith in
+    ap (putPairs from (many + 2) fs) (pair-more from many f d out₀ l ∙ ap (λ n. ((d ++ r₁) ++ r₂) ++ drop (8 * n) out₀) e)
+    ∙ after from (many + 2) fs ((d ++ r₁) ++ r₂) out₀ l′
+    ∙ rw (k, b, a) (ap (λ x. x ++ drop (8 * (many + 2 * suc (length fs))) out₀) (append-assoc (d ++ r₁) _ _ ∙ append-assoc d r₁ _))
+
+-- all pairs, from the start of the list
+pub putPairs-all : (from : ℕ) (fs : List Fibre) (out₀ : List ℕ) → putPairs from 0 fs out₀ ≡ fibreRecords from (twice fs) ++ drop (8 * (2 * length fs)) out₀
+putPairs-all from fs out₀ =
+    let a : from + 0 ≡ from = omega arith in
+    let b : 0 + 2 * length fs ≡ 2 * length fs = omega arith in
+    rw (a, b) at (after from 0 fs [] out₀ refl)
+
+-- one more layer is written
+pub layers-turn : (f : ℕ → ℕ) (n top from h many : ℕ) (out₀ out out′ : List ℕ) → many ≡ 2 * length (layersBy f n top h) → out ≡ putPairs from 0 (layersBy f n top h) out₀
+    → out′ ≡ putPairs from many (layerBy f n top (h + 1)) out → out′ ≡ putPairs from 0 (layersBy f n top (h + 1)) out₀
+layers-turn f n top from h many out₀ out out′ m o q =
+    let e : many ≡ 0 + 2 * length (layersBy f n top h) = omega arith in
+    q ∙ (λ i. putPairs from (e i) (layerBy f n top (h + 1)) (o i))
+    ∙ sym (putPairs-append from 0 (layersBy f n top h) (layerBy f n top (h + 1)) out₀)
+    ∙ ap (λ fs. putPairs from 0 fs out₀) (sym (layers-more f n top h))

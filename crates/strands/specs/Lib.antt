@@ -1,0 +1,5 @@
+pub mod Lists
+pub mod Area
+pub mod Laid
+pub mod Layers
+pub mod Halves
