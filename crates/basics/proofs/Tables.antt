@@ -50,3 +50,7 @@ each-zero s (suc k) = ap (λ (l : List ℕ). 0 ∷ l) (each-zero (suc s) k)
 pub zeros-add : (a b : ℕ) → replicate {A = ℕ} (a + b) 0 ≡ replicate a 0 ++ replicate b 0
 zeros-add zero b = rw zero-add
 zeros-add (suc a) b = rw suc-add (ap (λ (l : List ℕ). 0 ∷ l) (zeros-add a b))
+
+-- a table, from 0 on, that agrees with a list at each of its places is the list
+pub table-is : {A : Type 0} (d : A) (f : ℕ → A) (xs : List A) → ((i : ℕ) → i < length xs → f i ≡ getD xs i d) → each f 0 (length xs) ≡ xs
+table-is d f xs h = sym (is-each f 0 (length xs) d xs refl (λ i l. let z : i ≡ 0 + i = omega arith in sym (h i l) ∙ ap f z))

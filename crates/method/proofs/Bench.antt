@@ -11,14 +11,13 @@ use Rattle.basics.proofs.Bools.{by-eq, on}
 use Rattle.records.specs.declared.Circuit.{Circuit}
 use Rattle.method.specs.Bench.{AllHold, Least, NoRow, c, cases, clashing, f, g, slips, three}
 use Rattle.method.specs.Demands.{during, inRow}
-use Rattle.method.specs.Fibres.{assignments, fibres}
 use Rattle.method.specs.Line.{Plan, Valid, assigned, circuit, fibreUnder, overlap, spanLength, total, uses}
 use Rattle.method.specs.Sheet.{load}
 use Rattle.method.proofs.BenchPlans.{tables}
 use Rattle.method.proofs.During.{own-during}
 use Rattle.method.proofs.Intervals.{none-within}
 use Rattle.method.proofs.Lengths.{two-total}
-use Rattle.method.proofs.Links.{lay, uses-first, uses-last, uses-of}
+use Rattle.method.proofs.Links.{lies-there, uses-first, uses-last, uses-of}
 
 -- CASE 5
 -- a fibre is as long as each circuit in it
@@ -110,7 +109,7 @@ clash-no-row =
       no-row = λ n w ds lies r f k pos h.
           let x = h 2 (omega arith) in
           let y = h 3 (omega arith) in
-          none-within ds (inRow (during n w ds r f) k) (own-during n w ds (lay n ds lies) r f k pos) (x .0) (y .0) (x .1) (y .1) (λ e. let z = ap (λ j. (circuit ds j) .last) e in omega (arith, x .3, y .3)) (omega (arith, x .2, y .2)) (omega (arith, x .3, y .3));
+          none-within ds (inRow (during n w ds r f) k) (own-during n w ds (lies-there n ds lies) r f k pos) (x .0) (y .0) (x .1) (y .1) (λ e. let z = ap (λ j. (circuit ds j) .last) e in omega (arith, x .3, y .3)) (omega (arith, x .2, y .2)) (omega (arith, x .3, y .3));
     }
 
 -- no valid plan of case 5 is shorter than 5, and one has that length

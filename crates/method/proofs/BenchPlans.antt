@@ -19,5 +19,5 @@ pub tables : Least 2 three 5 → NoRow clashing 2 3 → AllHold cases × AllHold
 unfolding cases slips inLayer any better count each every lowest seek sum top circuit uses overlap over spanLength total act at begun chosen fits fresh inRun load most need paint redTo row rows runFrom runPast sheet step steps assignments fibres find floor given join layer layerOf layers onFirst onFirstBy pairOf pairs plan runs together twice wavelengthOf
 tables least no-row = (
   (worked refl refl refl, (worked refl refl refl, (worked refl refl refl, (worked refl refl refl, (worked refl refl refl, (least, (worked refl refl refl, (worked refl refl refl, (no-row, tt))))))))),
-  (worked refl refl refl, (worked refl refl refl, (worked refl refl refl, (worked refl refl refl, (worked refl refl refl, (worked refl refl refl, (worked refl refl refl, (worked refl refl refl, tt)))))))),
+  (worked refl refl refl, (worked refl refl refl, (worked refl refl refl, (worked refl refl refl, (worked refl refl refl, (worked refl refl refl, (worked refl refl refl, (worked refl refl refl, (worked refl refl refl, (worked refl refl refl, (worked refl refl refl, tt))))))))))),
 )

@@ -13,7 +13,7 @@ use Rattle.records.specs.declared.Circuit.{Circuit}
 use Rattle.method.specs.Line.{circuit}
 use Rattle.method.specs.Sheet.{State, act, at, open', runFrom, step, steps}
 use Rattle.method.proofs.Colours.{fits-meets, fits-real, from-open, from-past, from-pos, inRun-of, inRun-on, none-open, run-open}
-use Rattle.method.proofs.Links.{Lay, proper}
+use Rattle.method.proofs.Links.{LiesIfThere, proper}
 use Rattle.method.proofs.Steps.{blued, painted-cell, placed-cell, step-cases, took}
 
 module _ (n : ℕ) where
@@ -44,7 +44,7 @@ module _ (n : ℕ) (cs : List Circuit) where
   steps-idle zero k s h = refl
   steps-idle (suc f) k s h = ap (steps n cs f k) (step-idle k s h) ∙ steps-idle f k s h
 
-  module _ (lies : Lay n cs) (k : ℕ) where
+  module _ (lies : LiesIfThere n cs) (k : ℕ) where
     -- no link opens and one closes, so fewer are open
     fall : (s s' : State) → ((i : ℕ) → 1 ≤ i → i ≤ n → at (s' .colours) i ≡ open' → at (s .colours) i ≡ open') → (x : ℕ) → 1 ≤ x → x ≤ n → at (s .colours) x ≡ open' → at (s' .colours) x ≢ open' → opens n s' < opens n s
     unfolding opens

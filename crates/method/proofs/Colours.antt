@@ -126,11 +126,6 @@ module _ (n : ℕ) where
   unfolding paint
   at-paint p colour colours i l h = at-each (λ x. cond (p x) colour (at colours x)) n i l h
 
-  -- on the line or not
-  pub at-paint-cases : (p : ℕ → Bool) (colour : ℕ) (colours : List ℕ) (i : ℕ) → ((1 ≤ i) × (i ≤ n) × (at (paint n p colour colours) i ≡ cond (p i) colour (at colours i))) ⊎ (at (paint n p colour colours) i ≡ red)
-  unfolding paint
-  at-paint-cases p colour colours i = at-each-cases (λ x. cond (p x) colour (at colours x)) n i
-
   -- who fits is there
   pub fits-real : (colours : List ℕ) (c : Circuit) → fits n colours c ≡ true → 1 ≤ c .last
   unfolding fits

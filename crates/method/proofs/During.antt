@@ -8,11 +8,11 @@ use native.Mathlib.Omega.{arith}
 use Rattle.records.specs.declared.Circuit.{Circuit}
 use Rattle.method.specs.Demands.{OwnLinks, during, inRow}
 use Rattle.method.specs.Sheet.{State, begun, rowOf, sheet}
-use Rattle.method.proofs.Links.{Lay}
+use Rattle.method.proofs.Links.{LiesIfThere}
 use Rattle.method.proofs.OwnLinks.{Own, row-own}
 use Rattle.method.proofs.Placed.{after, begin-own}
 
-module _ (n w : ℕ) (cs : List Circuit) (lies : Lay n cs) where
+module _ (n w : ℕ) (cs : List Circuit) (lies : LiesIfThere n cs) where
   -- each circuit of a row has a link that no other circuit of its row uses
   own-links : (s : State) → ((j : ℕ) → rowOf s j ≢ 0 → (i : ℕ) × Own cs s j i) → (k : ℕ) → 1 ≤ k → OwnLinks cs (inRow s k)
   own-links s own k pos j h =

@@ -1,4 +1,4 @@
--- The method opens n cs at most one pair of fibres for each circuit. Assumes nothing.
+-- The method opens at most one pair of fibres for each circuit. Assumes nothing.
 use Prim.Native.Nat.{_*_, _+_, _-_, _/_, _<_, _≤_, min, suc, zero, ℕ}
 use borrow.Author.Tests.{eq-eqb, eqb-false, leb-false, leb-true, lt-leb, ne-eqb}
 use lib.Dec.{eqb}
@@ -16,10 +16,10 @@ use Rattle.basics.proofs.Sums.{sum-add, sum-has, sum-le, sum-one, sum-zero}
 use Rattle.records.specs.declared.Circuit.{Circuit}
 use Rattle.method.specs.Fibres.{inLayer, join, layer, layers, pairs, runs}
 use Rattle.method.specs.Line.{Fibre, circuit, tally, uses}
-use Rattle.method.specs.Sheet.{at, load, most, need}
+use Rattle.method.specs.Sheet.{load, most, need}
 use Rattle.method.proofs.FibreLists.{All, all-imp, tally-append, tally-none}
 use Rattle.method.proofs.Lengths.{OnLine, layers-on}
-use Rattle.method.proofs.Links.{Lay, on-line, uses-first, uses-last, uses-of}
+use Rattle.method.proofs.Links.{LiesIfThere, on-line, uses-first, uses-last, uses-of}
 use Rattle.method.proofs.Runs.{Maximal, Starts, runs-maximal, runs-start}
 
 -- whether a fibre ends at link l
@@ -116,7 +116,7 @@ no-more h A B T R a b = omega arith
 at-most : (M c c' e T : ℕ) → T ≤ min M (M - c') - (M - c) → c ≤ c' + e → c ≤ M → T ≤ e
 at-most M c c' e T a b d = omega arith
 
-module _ (n w : ℕ) (cs : List Circuit) (lies : Lay n cs) (pos : 1 ≤ w) where
+module _ (n w : ℕ) (cs : List Circuit) (lies : LiesIfThere n cs) (pos : 1 ≤ w) where
   -- a circuit on link l goes on to l + 1 or ends
   load-step : (l : ℕ) → load cs l ≤ load cs (suc l) + ending cs l
   unfolding load ending

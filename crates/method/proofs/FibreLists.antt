@@ -10,7 +10,6 @@ use Rattle.basics.proofs.Bools.{on}
 use Rattle.basics.proofs.Counts.{count-shift}
 use Rattle.method.specs.Fibres.{find, twice}
 use Rattle.method.specs.Line.{Fibre, noFibre, tally}
-use Rattle.method.specs.Sheet.{at}
 
 -- what holds of each fibre of a list
 abbrev pub All : (Fibre → Type 0) → List Fibre → Type 0

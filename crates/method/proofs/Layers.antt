@@ -10,7 +10,7 @@ use Rattle.basics.proofs.Bools.{and-of, and-r, by-eq, by-le, on}
 use Rattle.records.specs.declared.Circuit.{Circuit}
 use Rattle.method.specs.Fibres.{inLayer, layer, layers, pairs, runs}
 use Rattle.method.specs.Line.{Fibre, over, tally}
-use Rattle.method.specs.Sheet.{at, most}
+use Rattle.method.specs.Sheet.{most}
 use Rattle.method.proofs.FibreLists.{All, all-append, all-imp, tally-append, tally-le, tally-none}
 use Rattle.method.proofs.Runs.{Maximal, runs-in, runs-maximal}
 
@@ -44,7 +44,7 @@ module _ (n w : ℕ) (cs : List Circuit) where
       rw (tally-append p (layers n w cs H) (layer n w cs (suc H)))
       (by-eq h (suc H) (λ e. omega (arith, ap (λ z. tally p (layer n w cs z)) e)) (λ e. omega (arith, layers-have p h H a (omega arith))))
 
-  -- at most one fibre of layer h inLayer n w cs over x
+  -- at most one fibre of layer h passes over x
   one-in : (h k x : ℕ) → 1 ≤ x → x ≤ n → tally (λ f. eqb (f .layer) h && over f x) (layer n w cs k) ≤ cond (eqb k h) 1 0
   unfolding layer inLayer
   one-in h k x a b =
@@ -75,7 +75,7 @@ module _ (n w : ℕ) (cs : List Circuit) where
       by-le h k (λ l. let r' = rw (le-leb h k l) at r in rw (le-leb h (suc k) (omega arith)) (omega arith))
       (λ l. let r' = rw (lt-leb h k l) at r in rw (lt-leb h (suc k) (omega arith)) (omega arith))))
 
-  -- so at most one pair of layer h inLayer n w cs over x
+  -- so at most one pair of layer h passes over x
   pub one-over : (h x : ℕ) → 1 ≤ x → x ≤ n → tally (λ f. eqb (f .layer) h && over f x) (pairs n w cs) ≤ 1
   unfolding pairs
   one-over h x a b = let r = one-to h x a b (most n w cs) in on (leb h (most n w cs)) (λ t. let r' = rw t at r in omega arith) (λ t. let r' = rw t at r in omega arith)

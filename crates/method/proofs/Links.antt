@@ -10,7 +10,6 @@ use native.Mathlib.Omega.{arith}
 use Rattle.basics.proofs.Bools.{and-l, and-of, and-r, by-le}
 use Rattle.records.specs.declared.Circuit.{Circuit}
 use Rattle.method.specs.Line.{Lies, circuit, nobody, overlap, uses}
-use Rattle.method.specs.Sheet.{at}
 
 -- a link that a circuit uses is not before its first
 pub uses-first : (c : Circuit) (i : ℕ) → uses c i ≡ true → c .first ≤ i
@@ -60,16 +59,16 @@ pub overlap-sym : (c d : Circuit) → overlap c d ≡ true → overlap d c ≡ t
 overlap-sym c d o = overlap-of d c (overlap-r c d o) (overlap-l c d o)
 
 -- each circuit lies on the line, in a file that may have gaps: a circuit with last link 0 is not there
-abbrev pub Lay : ℕ → List Circuit → Type 0
-Lay n cs = (j : ℕ) → j < length cs → (1 ≤ (getD cs j nobody) .first) × (1 ≤ (getD cs j nobody) .last → (getD cs j nobody) .first ≤ (getD cs j nobody) .last) × ((getD cs j nobody) .last ≤ n)
+abbrev pub LiesIfThere : ℕ → List Circuit → Type 0
+LiesIfThere n cs = (j : ℕ) → j < length cs → (1 ≤ (getD cs j nobody) .first) × (1 ≤ (getD cs j nobody) .last → (getD cs j nobody) .first ≤ (getD cs j nobody) .last) × ((getD cs j nobody) .last ≤ n)
 
 -- a file without gaps
-pub lay : (n : ℕ) (cs : List Circuit) → Lies n cs → Lay n cs
-lay n cs lies j l = let a = lies j l in (a .0, λ r. a .1, a .2)
+pub lies-there : (n : ℕ) (cs : List Circuit) → Lies n cs → LiesIfThere n cs
+lies-there n cs lies j l = let a = lies j l in (a .0, λ r. a .1, a .2)
 
 module _ (n : ℕ) (cs : List Circuit) where
   -- a link that a circuit uses is on the line
-  pub on-line : Lay n cs → (j i : ℕ) → uses (circuit cs j) i ≡ true → (1 ≤ i) × (i ≤ n)
+  pub on-line : LiesIfThere n cs → (j i : ℕ) → uses (circuit cs j) i ≡ true → (1 ≤ i) × (i ≤ n)
   unfolding circuit
   on-line lies j i u =
       by-le (suc j) (length cs)
@@ -80,6 +79,6 @@ module _ (n : ℕ) (cs : List Circuit) where
       absurd (omega (arith, uses-first nobody i u', uses-last nobody i u')))
 
   -- a circuit that is there begins no later than it ends
-  pub proper : Lay n cs → (j : ℕ) → j < length cs → 1 ≤ (circuit cs j) .last → (circuit cs j) .first ≤ (circuit cs j) .last
+  pub proper : LiesIfThere n cs → (j : ℕ) → j < length cs → 1 ≤ (circuit cs j) .last → (circuit cs j) .first ≤ (circuit cs j) .last
   unfolding circuit
   proper lies j h r = lies j h .1 r

@@ -12,7 +12,7 @@ use Rattle.records.specs.declared.Circuit.{Circuit}
 use Rattle.method.specs.Line.{circuit, uses}
 use Rattle.method.specs.Sheet.{State, act, at, inRun, open', rowOf, steps, taken}
 use Rattle.method.proofs.Colours.{fits-each, fits-meets, fits-real, run-open}
-use Rattle.method.proofs.Links.{Lay, on-line, proper}
+use Rattle.method.proofs.Links.{LiesIfThere, on-line, proper}
 use Rattle.method.proofs.Steps.{Kept-painted, Kept-placed, blued, new-row, old-row, some-length, steps-keep, took, unblued, untook}
 
 module _ (cs : List Circuit) where
@@ -28,7 +28,7 @@ module _ (cs : List Circuit) where
     pub dull : (j : ℕ) → rowOf s j ≡ k → (i : ℕ) → uses (circuit cs j) i ≡ true → at (s .colours) i ≢ open'
 
 module _ (n : ℕ) (cs : List Circuit) where
-  module _ (lies : Lay n cs) (k : ℕ) (pos : 1 ≤ k) where
+  module _ (lies : LiesIfThere n cs) (k : ℕ) (pos : 1 ≤ k) where
     -- painting the run keeps it
     painted-own : Kept-painted n cs k (Owned cs k)
     unfolding act

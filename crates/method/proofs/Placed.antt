@@ -19,7 +19,7 @@ use Rattle.method.specs.Line.{circuit, uses}
 use Rattle.method.specs.Sheet.{State, act, at, begun, blue, fresh, inRun, load, most, need, open', red, redTo, row, rowOf, sheet, steps, taken}
 use Rattle.method.proofs.Closed.{row-closed}
 use Rattle.method.proofs.Colours.{at-each, fits-each, fits-of, run-open}
-use Rattle.method.proofs.Links.{Lay, on-line, proper, uses-first, uses-last, uses-of}
+use Rattle.method.proofs.Links.{LiesIfThere, on-line, proper, uses-first, uses-last, uses-of}
 use Rattle.method.proofs.OwnLinks.{Own, Owned, row-own}
 use Rattle.method.proofs.Steps.{Kept-painted, Kept-placed, new-row, old-row, painted-cell, placed-cell, some-length, steps-keep, unblued}
 
@@ -68,28 +68,28 @@ module _ (n w : ℕ) (cs : List Circuit) where
   -- what holds within row k, which began at s₀
   pub record Going (k : ℕ) (s₀ s : State) : Type 0 where
     pub sized : length (s .rows) ≡ length cs
-    pub code : (i : ℕ) → 1 ≤ i → i ≤ n → at (s .colours) i ≤ 3
+    pub colour-known : (i : ℕ) → 1 ≤ i → i ≤ n → at (s .colours) i ≤ 3
     pub reds : (i : ℕ) → 1 ≤ i → i ≤ n → at (s .colours) i ≡ red → k ≤ redTo n w cs i
     pub reddened : (i : ℕ) → 1 ≤ i → i ≤ n → k ≤ redTo n w cs i → at (s .colours) i ≡ red
     pub blues : (i : ℕ) → 1 ≤ i → i ≤ n → at (s₀ .colours) i ≡ blue → at (s .colours) i ≡ blue
-    pub hope : (j : ℕ) → j < length cs → 1 ≤ (circuit cs j) .last → rowOf s j ≡ 0 → (i : ℕ) × (uses (circuit cs j) i ≡ true) × (at (s .colours) i ≢ blue)
+    pub not-all-blue : (j : ℕ) → j < length cs → 1 ≤ (circuit cs j) .last → rowOf s j ≡ 0 → (i : ℕ) × (uses (circuit cs j) i ≡ true) × (at (s .colours) i ≢ blue)
     pub fewer : (i : ℕ) → 1 ≤ i → i ≤ n → waitingOn cs s i ≤ waitingOn cs s₀ i
     pub gone : (i : ℕ) → 1 ≤ i → i ≤ n → at (s .colours) i ≡ taken → waitingOn cs s i < waitingOn cs s₀ i
     pub marked : (j : ℕ) → rowOf s j ≤ k
     pub clear : (j i : ℕ) → rowOf s j ≢ 0 → uses (circuit cs j) i ≡ true → redTo n w cs i < rowOf s j
 
-  module _ (lies : Lay n cs) (k : ℕ) (pos : 1 ≤ k) (s₀ : State) where
+  module _ (lies : LiesIfThere n cs) (k : ℕ) (pos : 1 ≤ k) (s₀ : State) where
     -- painting the run keeps it
     painted-going : Kept-painted n cs k (Going k s₀)
     unfolding act
     painted-going s y l nobody-fits =
         record {
           sized = y .sized;
-          code = λ i a b. ⊎-elim (λ t. omega (arith, t .1)) (λ t. omega (arith, y .code i a b)) (painted-cell n cs k s i a b);
+          colour-known = λ i a b. ⊎-elim (λ t. omega (arith, t .1)) (λ t. omega (arith, y .colour-known i a b)) (painted-cell n cs k s i a b);
           reds = λ i a b e. ⊎-elim (λ t. absurd (omega (arith, t .1))) (λ t. y .reds i a b (sym t ∙ e)) (painted-cell n cs k s i a b);
           reddened = λ i a b e. ⊎-elim (λ t. absurd (omega (arith, t .0, y .reddened i a b e))) (λ t. t ∙ y .reddened i a b e) (painted-cell n cs k s i a b);
           blues = λ i a b e. ⊎-elim (λ t. t .1) (λ t. t ∙ y .blues i a b e) (painted-cell n cs k s i a b);
-          hope = λ j b r m. hope' j b m (y .hope j b r m);
+          not-all-blue = λ j b r m. not-all-blue' j b m (y .not-all-blue j b r m);
           fewer = λ i a b. omega (arith, waiting-none n cs k s i, y .fewer i a b);
           gone = λ i a b e. ⊎-elim (λ t. absurd (omega (arith, t .1))) (λ t. omega (arith, waiting-none n cs k s i, y .gone i a b (sym t ∙ e))) (painted-cell n cs k s i a b);
           marked = y .marked;
@@ -97,8 +97,8 @@ module _ (n w : ℕ) (cs : List Circuit) where
         }
       where
         -- if all links of a waiting circuit turned blue, it would have fitted
-        hope' : (j : ℕ) → j < length cs → rowOf s j ≡ 0 → (i : ℕ) × (uses (circuit cs j) i ≡ true) × (at (s .colours) i ≢ blue) → (i : ℕ) × (uses (circuit cs j) i ≡ true) × (at ((act n cs k s none) .colours) i ≢ blue)
-        hope' j b m o =
+        not-all-blue' : (j : ℕ) → j < length cs → rowOf s j ≡ 0 → (i : ℕ) × (uses (circuit cs j) i ≡ true) × (at (s .colours) i ≢ blue) → (i : ℕ) × (uses (circuit cs j) i ≡ true) × (at ((act n cs k s none) .colours) i ≢ blue)
+        not-all-blue' j b m o =
             let c : Circuit = circuit cs j in
             let p : ℕ → Bool = λ x. inRun n (s .colours) x || eqb (at (s .colours) x) blue in
             let either : (x : ℕ) → p x ≡ true → (inRun n (s .colours) x ≡ true) ⊎ (at (s .colours) x ≡ blue) = λ x e. ⊎-elim (λ t. inl t) (λ t. inr (eqb-true _ _ t)) (or-cases (inRun n (s .colours) x) _ e) in
@@ -121,14 +121,14 @@ module _ (n w : ℕ) (cs : List Circuit) where
     placed-going s j₀ y l below wait fit =
         record {
           sized = some-length n cs k s j₀ ∙ y .sized;
-          code = λ i a b. ⊎-elim (λ t. omega (arith, t .1)) (λ t. omega (arith, y .code i a b)) (placed-cell n cs k s i a b j₀);
+          colour-known = λ i a b. ⊎-elim (λ t. omega (arith, t .1)) (λ t. omega (arith, y .colour-known i a b)) (placed-cell n cs k s i a b j₀);
           reds = λ i a b e. ⊎-elim (λ t. absurd (omega (arith, t .1))) (λ t. y .reds i a b (sym t ∙ e)) (placed-cell n cs k s i a b j₀);
           reddened = λ i a b e. ⊎-elim (λ t. absurd (omega (arith, t .0, y .reddened i a b e))) (λ t. t ∙ y .reddened i a b e) (placed-cell n cs k s i a b j₀);
           blues = λ i a b e. ⊎-elim (λ t. absurd (omega (arith, t .0, y .blues i a b e))) (λ t. t ∙ y .blues i a b e) (placed-cell n cs k s i a b j₀);
-          hope = λ j b r m.
+          not-all-blue = λ j b r m.
               by-eq j j₀ (λ t. absurd (omega (arith, ap (rowOf s') t, new)))
               (λ t.
-              let o = y .hope j b r (sym (old-row n cs k s j₀ j t) ∙ m) in
+              let o = y .not-all-blue j b r (sym (old-row n cs k s j₀ j t) ∙ m) in
               let a = on-line n cs lies j (o .0) (o .1) in
               let o₂ = o .2 in
               (o .0, o .1, ⊎-elim (λ u. omega (arith, u .1)) (λ u. omega arith) (placed-cell n cs k s (o .0) (a .0) (a .1) j₀)));
@@ -186,25 +186,25 @@ module _ (n w : ℕ) (cs : List Circuit) where
   -- WHAT HOLDS AFTER k ROWS
   pub record After (k : ℕ) (s : State) : Type 0 where
     pub sized : length (s .rows) ≡ length cs
-    pub hope : (j : ℕ) → j < length cs → 1 ≤ (circuit cs j) .last → rowOf s j ≡ 0 → (i : ℕ) × (uses (circuit cs j) i ≡ true) × (at (s .colours) i ≢ blue)
+    pub not-all-blue : (j : ℕ) → j < length cs → 1 ≤ (circuit cs j) .last → rowOf s j ≡ 0 → (i : ℕ) × (uses (circuit cs j) i ≡ true) × (at (s .colours) i ≢ blue)
     pub room : (i : ℕ) → 1 ≤ i → i ≤ n → at (s .colours) i ≢ blue → waitingOn cs s i + (k - redTo n w cs i) ≤ load cs i
     pub marked : (j : ℕ) → rowOf s j ≤ k
     pub clear : (j i : ℕ) → rowOf s j ≢ 0 → uses (circuit cs j) i ≡ true → redTo n w cs i < rowOf s j
     pub own : (j : ℕ) → rowOf s j ≢ 0 → (i : ℕ) × Own cs s j i
 
-  module _ (lies : Lay n cs) (k : ℕ) (s : State) (y : After k s) where
+  module _ (lies : LiesIfThere n cs) (k : ℕ) (s : State) (y : After k s) where
     -- the next row begins
     begin-going : Going (suc k) (begun n w cs (suc k) s) (begun n w cs (suc k) s)
     unfolding begun
     begin-going =
         record {
           sized = y .sized;
-          code = λ i a b. begun-cases (suc k) s i a b (λ p q. omega arith) (λ p q r. omega arith) (λ p q r. omega arith);
+          colour-known = λ i a b. begun-cases (suc k) s i a b (λ p q. omega arith) (λ p q r. omega arith) (λ p q r. omega arith);
           reds = λ i a b e. begun-cases (suc k) s i a b (λ p q. p) (λ p q r. absurd (omega arith)) (λ p q r. absurd (omega arith));
           reddened = λ i a b e. begun-cases (suc k) s i a b (λ p q. q) (λ p q r. absurd (omega arith)) (λ p q r. absurd (omega arith));
           blues = λ i a b e. e;
-          hope = λ j b r m.
-              let o = y .hope j b r m in
+          not-all-blue = λ j b r m.
+              let o = y .not-all-blue j b r m in
               let a = on-line n cs lies j (o .0) (o .1) in
               let o₂ = o .2 in
               (o .0, o .1, begun-cases (suc k) s (o .0) (a .0) (a .1) (λ p q. omega arith) (λ p q r. absurd (o₂ q)) (λ p q r. omega arith));
@@ -235,13 +235,13 @@ module _ (n w : ℕ) (cs : List Circuit) where
     row-after =
         record {
           sized = g .sized;
-          hope = g .hope;
+          not-all-blue = g .not-all-blue;
           room = λ i a b e. begun-cases (suc k) s i a b
               (λ p q. omega (arith, waiting-load cs end i))
               (λ p q r. absurd (e (g .blues i a b r)))
               (λ p q r.
               let t : at (end .colours) i ≡ taken =
-              by-eq (at (end .colours) i) red (λ u. absurd (omega (arith, g .reds i a b u))) (λ u. omega (arith, g .code i a b, row-closed n cs lies (suc k) (begun n w cs (suc k) s) i a b)) in
+              by-eq (at (end .colours) i) red (λ u. absurd (omega (arith, g .reds i a b u))) (λ u. omega (arith, g .colour-known i a b, row-closed n cs lies (suc k) (begun n w cs (suc k) s) i a b)) in
               omega (arith, g .gone i a b t, y .room i a b q, waiting-begun i));
           marked = g .marked;
           clear = g .clear;
@@ -273,14 +273,14 @@ module _ (n w : ℕ) (cs : List Circuit) where
   all-red zero l h = absurd (omega arith)
   all-red (suc i) l h = getD-replicate n i red red (omega arith)
 
-  module _ (lies : Lay n cs) where
+  module _ (lies : LiesIfThere n cs) where
     -- so it holds at first
     after-none : After 0 (sheet n w cs 0)
     unfolding sheet
     after-none =
         record {
           sized = length-replicate (length cs) 0;
-          hope = λ j b r m.
+          not-all-blue = λ j b r m.
               let u : uses (circuit cs j) ((circuit cs j) .first) ≡ true = uses-of (circuit cs j) _ (omega arith) (proper n cs lies j b r) in
               let a = on-line n cs lies j _ u in
               (_, u, omega (arith, all-red _ (a .0) (a .1)));
@@ -318,7 +318,7 @@ module _ (n w : ℕ) (cs : List Circuit) where
       unfolding waitingOn
       all-placed j b r m =
           let y = after (most n w cs * w) in
-          let o = y .hope j b r m in
+          let o = y .not-all-blue j b r m in
           let a = on-line n cs lies j (o .0) (o .1) in
           omega (arith, y .room (o .0) (a .0) (a .1) (o .2), rows-left (o .0) (a .0) (a .1), load-need (o .0), count-some (λ d. eqb (rowOf (sheet n w cs (most n w cs * w)) d) 0 && uses (circuit cs d) (o .0)) (length cs) j b (and-of _ _ (eq-eqb _ _ m) (o .1)))
 

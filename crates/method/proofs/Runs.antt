@@ -9,9 +9,8 @@ use mathlib.Core.Path.{_∙_, _≡_, ap, ap₂, refl, sym}
 use native.Mathlib.Omega.{arith}
 use Rattle.basics.specs.Tools.{seek}
 use Rattle.basics.proofs.Bools.{and-l, and-of, and-r, by-eq, by-le, on}
-use Rattle.method.specs.Fibres.{join, layer, runs}
+use Rattle.method.specs.Fibres.{join, runs}
 use Rattle.method.specs.Line.{Fibre, over, tally}
-use Rattle.method.specs.Sheet.{at}
 use Rattle.method.proofs.FibreLists.{All, all-imp, tally-none}
 
 -- a link that a fibre passes over is not before its first

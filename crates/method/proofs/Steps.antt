@@ -57,11 +57,6 @@ module _ (n : ℕ) (cs : List Circuit) where
   unfolding act
   old-row k s j d h = getD-set-other (s .rows) j d k 0 h
 
-  -- painting places nobody
-  pub none-rows : (k : ℕ) (s : State) → (act n cs k s none) .rows ≡ s .rows
-  unfolding act
-  none-rows k s = refl
-
   -- no circuit is lost
   pub some-length : (k : ℕ) (s : State) (j : ℕ) → length ((act n cs k s (some j)) .rows) ≡ length (s .rows)
   unfolding act

@@ -14,12 +14,12 @@ use Rattle.basics.proofs.Tables.{getD-each, length-each}
 use Rattle.records.specs.declared.Circuit.{Circuit}
 use Rattle.method.specs.Fibres.{assignments, fibres, given, inLayer, layerOf, layers, onFirst, pairOf, pairs, plan, twice, wavelengthOf}
 use Rattle.method.specs.Line.{Fibre, Lies, Valid, assigned, circuit, fibreUnder, noFibre, over, overlap, unassigned, uses}
-use Rattle.method.specs.Sheet.{State, at, most, need, redTo, rowOf, rows, sheet}
+use Rattle.method.specs.Sheet.{State, most, need, redTo, rowOf, rows, sheet}
 use Rattle.method.proofs.During.{own-after}
 use Rattle.method.proofs.FibreLists.{all-getD, at-most-one, find-hit, length-twice, twice-first, twice-second}
 use Rattle.method.proofs.Halves.{differ, run-idle}
 use Rattle.method.proofs.Layers.{layer-has, layers-have, layers-maximal, one-over}
-use Rattle.method.proofs.Links.{lay, on-line, overlap-shares, uses-first, uses-last, uses-of}
+use Rattle.method.proofs.Links.{lies-there, on-line, overlap-shares, uses-first, uses-last, uses-of}
 use Rattle.method.proofs.Placed.{After, after, all-placed}
 use Rattle.method.proofs.Runs.{Maximal, over-first, over-last, over-of}
 
@@ -98,14 +98,14 @@ module _ (n w : ℕ) (cs : List Circuit) (lies : Lies n cs) (pos : 1 ≤ w) wher
   -- what holds of the full sheet
   full : After n w cs (most n w cs * w) (final n w cs)
   unfolding final
-  full = after n w cs (lay n cs lies) (most n w cs * w)
+  full = after n w cs (lies-there n cs lies) (most n w cs * w)
 
   -- WHAT IS KNOWN OF CIRCUIT j
   module _ (j : ℕ) (l : j < length cs) where
     -- it is placed
     pub is-placed : rowOf (final n w cs) j ≢ 0
     unfolding final
-    is-placed = all-placed n w cs (lay n cs lies) pos j l (let a = real j l in let b = lies j l in unfold circuit in omega arith)
+    is-placed = all-placed n w cs (lies-there n cs lies) pos j l (let a = real j l in let b = lies j l in unfold circuit in omega arith)
 
     -- its layer is one of the M
     pub layer-in : (1 ≤ layerAt n w cs j) × (layerAt n w cs j ≤ most n w cs)
@@ -131,7 +131,7 @@ module _ (n w : ℕ) (cs : List Circuit) (lies : Lies n cs) (pos : 1 ≤ w) wher
         let x = (circuit cs j) .first in
         let h = layerAt n w cs j in
         let u : uses (circuit cs j) x ≡ true = uses-of (circuit cs j) x (omega arith) (real j l) in
-        let a = on-line n cs (lay n cs lies) j x u in
+        let a = on-line n cs (lies-there n cs lies) j x u in
         let p : Fibre → Bool = λ f. eqb (f .layer) (layerAt n w cs j) && over f x in
         find-hit p (layers n w cs (most n w cs))
         (let t = layer-has n w cs h x (a .0) (a .1) (passing x u) in
@@ -162,7 +162,7 @@ module _ (n w : ℕ) (cs : List Circuit) (lies : Lies n cs) (pos : 1 ≤ w) wher
           by-le ((circuit cs j) .last) (f .last) (λ h. h)
               (λ h.
               let u : uses (circuit cs j) (suc (f .last)) ≡ true = uses-of (circuit cs j) (suc (f .last)) (omega arith) h in
-              let a = on-line n cs (lay n cs lies) j (suc (f .last)) u in
+              let a = on-line n cs (lies-there n cs lies) j (suc (f .last)) u in
               clash (inLayer n w cs (layerAt n w cs j) (suc (f .last))) (passing (suc (f .last)) u) (its-maximal .stop (omega arith))),
         )
 
@@ -213,7 +213,7 @@ module _ (n w : ℕ) (cs : List Circuit) (lies : Lies n cs) (pos : 1 ≤ w) wher
         wavelength-in = λ j l. let x = row-split j l in rw (wavelength-is n w cs j l) (x .3, x .4);
         apart = λ i j a b q o e v.
             let p = same-pair n w cs i j a b e in
-            differ cs ((final n w cs) .rows) (pairOf n w cs ((final n w cs) .rows)) (own-after n w cs (lay n cs lies) (most n w cs * w)) i j a b
+            differ cs ((final n w cs) .rows) (pairOf n w cs ((final n w cs) .rows)) (own-after n w cs (lies-there n cs lies) (most n w cs * w)) i j a b
             (is-placed i a) (same-row i j a b (p .0) v) (p .0) q o (p .1);
       }
 
@@ -224,7 +224,7 @@ module _ (n w : ℕ) (cs : List Circuit) (lies : Lies n cs) (pos : 1 ≤ w) wher
   same-run i j a b e o =
       let s = overlap-shares (circuit cs i) (circuit cs j) (real i a) (real j b) o in
       let x = s .0 in
-      let on-it = on-line n cs (lay n cs lies) i x (s .1) in
+      let on-it = on-line n cs (lies-there n cs lies) i x (s .1) in
       let p : Fibre → Bool = λ f. eqb (f .layer) (layerAt n w cs i) && over f x in
       let h : layerAt n w cs j ≡ layerAt n w cs i = ap (layerOf w) (sym e) in
       at-most-one p (pairs n w cs) (one-over n w cs (layerAt n w cs i) x (on-it .0) (on-it .1)) (pairAt n w cs i) (pairAt n w cs j) (found i a .0) (found j b .0)

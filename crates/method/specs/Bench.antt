@@ -8,7 +8,7 @@ use mathlib.Core.Logic.{_≢_}
 use mathlib.Core.Path.{_≡_}
 use Rattle.records.specs.declared.Circuit.{Circuit}
 use Rattle.method.specs.Demands.{during, inRow}
-use Rattle.method.specs.Fibres.{assignments, fibres, floor, layer, plan}
+use Rattle.method.specs.Fibres.{floor, plan}
 use Rattle.method.specs.Line.{Assignment, Fibre, Lies, Plan, Valid, circuit, total, uses}
 use Rattle.method.specs.Sheet.{load}
 
@@ -34,11 +34,11 @@ pub record Least (w : ℕ) (cs : List Circuit) (t : ℕ) : Type 0 where
   pub best-valid : Valid w cs best
   pub best-total : total (best .fibres) ≡ t
 
--- row k holds, for each of cs, a circuit with the same ends
+-- among the circuits of ds that pass there is, for each of cs, one with the same ends
 abbrev pub HoldsEnds : (ℕ → Bool) → List Circuit → List Circuit → Type 0
 HoldsEnds of ds cs = (a : ℕ) → a < length cs → (j : ℕ) × (of j ≡ true) × ((circuit ds j) .first ≡ (circuit cs a) .first) × ((circuit ds j) .last ≡ (circuit cs a) .last)
 
--- at most two of cs are on a link, and they are no row of any sheet, by their ends alone: circuit `inner` has no link that `outer` does not use
+-- at most two of cs are on a link, and they are no row of any sheet, by their ends alone: circuit `inner`, a place from 0, has no link that `outer` does not use
 pub record NoRow (cs : List Circuit) (inner outer : ℕ) : Type 0 where
   pub two-on-a-link : (i : ℕ) → load cs i ≤ 2
   pub two-of-them : (inner < length cs) × (outer < length cs) × (inner ≢ outer)
@@ -90,17 +90,29 @@ cases =
     noRow clashing 2 3 ∷
     []
 
--- Slips that cases 1 to 8 let pass, in this order: the rightmost run first; the longest run first; the lowest first link, then the number; the second fibre to
--- one that meets any earlier circuit; what stays open left of a placed circuit is forgotten; the shortest run first, or crossed blue links made open; the
--- longest run of a layer numbered first; no more steps in a row than circuits
+-- slips that cases 1 to 8 let pass, each with an instance that it gets wrong
 unfoldable pub slips : List Case
 slips =
+    -- the rightmost run first
     planned 3 2 (c 1 1 3 ∷ c 2 1 2 ∷ c 3 2 2 ∷ []) (f 2 2 1 ∷ f 2 2 1 ∷ f 1 3 2 ∷ f 1 3 2 ∷ []) (g 3 2 ∷ g 3 1 ∷ g 1 1 ∷ []) 8 4 ∷
+    -- the longest run first
     planned 4 2 (c 1 1 3 ∷ c 2 2 2 ∷ c 3 2 4 ∷ []) (f 2 2 1 ∷ f 2 2 1 ∷ f 1 4 2 ∷ f 1 4 2 ∷ []) (g 3 1 ∷ g 1 1 ∷ g 3 2 ∷ []) 10 5 ∷
+    -- the lowest first link, and then the number
     planned 2 2 (c 1 2 2 ∷ c 2 1 2 ∷ []) (f 1 2 1 ∷ f 1 2 1 ∷ []) (g 1 1 ∷ g 1 2 ∷ []) 4 2 ∷
+    -- the second fibre to one that meets any earlier circuit of its row
     planned 5 1 (c 1 4 5 ∷ c 2 1 2 ∷ c 3 2 4 ∷ []) (f 2 2 1 ∷ f 2 2 1 ∷ f 4 4 1 ∷ f 4 4 1 ∷ f 1 5 2 ∷ f 1 5 2 ∷ []) (g 5 1 ∷ g 5 1 ∷ g 6 1 ∷ []) 14 7 ∷
+    -- what stays open left of a placed circuit is forgotten
     planned 3 1 (c 1 1 3 ∷ c 2 1 1 ∷ c 3 3 3 ∷ c 4 2 2 ∷ []) (f 1 3 1 ∷ f 1 3 1 ∷ f 1 3 2 ∷ f 1 3 2 ∷ []) (g 1 1 ∷ g 3 1 ∷ g 3 1 ∷ g 3 1 ∷ []) 12 6 ∷
+    -- the shortest run first
     planned 5 1 (c 1 1 4 ∷ c 2 2 5 ∷ c 3 4 5 ∷ []) (f 4 4 1 ∷ f 4 4 1 ∷ f 2 5 2 ∷ f 2 5 2 ∷ f 1 5 3 ∷ f 1 5 3 ∷ []) (g 5 1 ∷ g 3 1 ∷ g 6 1 ∷ []) 20 10 ∷
+    -- the longest run of a layer numbered first
     planned 5 1 (c 1 2 4 ∷ c 2 1 1 ∷ c 3 1 1 ∷ c 4 3 5 ∷ []) (f 1 1 1 ∷ f 1 1 1 ∷ f 3 4 1 ∷ f 3 4 1 ∷ f 1 5 2 ∷ f 1 5 2 ∷ []) (g 5 1 ∷ g 1 1 ∷ g 5 1 ∷ g 6 1 ∷ []) 16 8 ∷
+    -- no more steps in a row than circuits
     planned 5 2 (c 1 2 2 ∷ c 2 1 3 ∷ c 3 5 5 ∷ []) (f 1 3 1 ∷ f 1 3 1 ∷ f 5 5 1 ∷ f 5 5 1 ∷ []) (g 1 1 ∷ g 1 2 ∷ g 3 1 ∷ []) 8 4 ∷
+    -- a placed circuit makes the blue links that it crosses open
+    planned 3 1 (c 1 2 3 ∷ c 2 2 3 ∷ c 3 1 2 ∷ c 4 1 2 ∷ []) (f 2 2 1 ∷ f 2 2 1 ∷ f 2 2 2 ∷ f 2 2 2 ∷ f 1 3 3 ∷ f 1 3 3 ∷ f 1 3 4 ∷ f 1 3 4 ∷ []) (g 6 1 ∷ g 8 1 ∷ g 5 1 ∷ g 7 1 ∷ []) 16 8 ∷
+    -- one that crosses blue links first, and then the number
+    planned 3 1 (c 1 3 3 ∷ c 2 1 2 ∷ c 3 2 3 ∷ c 4 1 2 ∷ []) (f 2 2 1 ∷ f 2 2 1 ∷ f 1 3 2 ∷ f 1 3 2 ∷ f 1 3 3 ∷ f 1 3 3 ∷ []) (g 3 1 ∷ g 3 1 ∷ g 6 1 ∷ g 5 1 ∷ []) 14 7 ∷
+    -- one that ends within the run first, and then the number
+    planned 3 1 (c 1 1 2 ∷ c 2 2 3 ∷ c 3 1 1 ∷ c 4 2 3 ∷ []) (f 2 2 1 ∷ f 2 2 1 ∷ f 1 3 2 ∷ f 1 3 2 ∷ f 1 3 3 ∷ f 1 3 3 ∷ []) (g 3 1 ∷ g 4 1 ∷ g 5 1 ∷ g 5 1 ∷ []) 14 7 ∷
     []

@@ -1,4 +1,5 @@
--- What is promised of the plan of the two-phase method: demands 2 and 3. `proofs/Demands.antt` shows that it holds.
+-- What is promised of the plan of the two-phase method: demands 2 and 3. `proofs/Demands.antt` shows that it holds for every n, every w ≥ 1 and every list of
+-- circuits that lie on the line.
 -- Assumes nothing.
 use Prim.Native.Nat.{_*_, _+_, _-_, _<_, _≤_, suc, ℕ}
 use lib.Dec.{eqb}
@@ -60,7 +61,7 @@ OwnLinks cs of = (j : ℕ) → of j ≡ true → (i : ℕ) × (uses (circuit cs 
 abbrev pub loadOf : List Circuit → (ℕ → Bool) → ℕ → ℕ
 loadOf cs of i = count (λ j. of j && uses (circuit cs j) i) (length cs)
 
--- demand 3: the rows, and so at most twice the strands over each link and twice the length of any valid plan whatsoever
+-- demand 3: the rows, and so at most twice the fibres over each link and twice the length of any valid plan whatsoever
 pub record Demand3 (n w : ℕ) (cs : List Circuit) : Type 0 where
   -- after any number of placements each circuit of a row has a link that no other circuit of its row uses
   pub own : (r f k : ℕ) → 1 ≤ k → OwnLinks cs (inRow (during n w cs r f) k)

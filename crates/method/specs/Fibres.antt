@@ -83,13 +83,13 @@ module _ (cs : List Circuit) (rows : List ℕ) (run : ℕ → ℕ) where
   onFirst j = onFirstBy ((circuit cs j) .last) j
 
 -- THE PLAN
--- the place of the first fibre that passes
+-- the place of the first fibre that passes, counted from 0, or the length of the list if none does
 unfoldable pub find : (Fibre → Bool) → List Fibre → ℕ
 find p [] = 0
 find p (f ∷ fs) = cond (p f) 0 (suc (find p fs))
 
 module _ (n w : ℕ) (cs : List Circuit) where
-  -- the run of circuit j, as the place of its pair: the run of its layer over its first link
+  -- the run of circuit j, as the place of its pair, counted from 0: the run of its layer over its first link
   unfoldable pub pairOf : List ℕ → ℕ → ℕ
   pairOf rows j = find (λ f. eqb (f .layer) (layerOf w (getD rows j 0)) && over f ((circuit cs j) .first)) (pairs n w cs)
 

@@ -22,7 +22,7 @@ circuit cs j = getD cs j nobody
 unfoldable pub uses : Circuit → ℕ → Bool
 uses c i = leb (c .first) i && leb i (c .last)
 
--- two circuits overlap if they share a link: each begins no later than the other ends
+-- two circuits overlap if they share a link; for circuits that lie on the line: if each begins no later than the other ends
 unfoldable pub overlap : Circuit → Circuit → Bool
 overlap c d = leb (c .first) (d .last) && leb (d .first) (c .last)
 

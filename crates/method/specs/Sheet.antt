@@ -64,7 +64,8 @@ module _ (n : ℕ) where
   unfoldable pub inRun : List ℕ → ℕ → Bool
   inRun colours i = leb (runFrom colours) i && ltb i (runPast colours)
 
-  -- a circuit fits if it uses a link of the run and each of its links is in the run or blue
+  -- a circuit fits if it uses a link of the run (it ends no sooner than the run begins, and begins no later than it ends) and each of its links is in the
+  -- run or blue
   unfoldable pub fits : List ℕ → Circuit → Bool
   fits colours c =
       leb (runFrom colours) (c .last) && ltb (c .first) (runPast colours)

@@ -4,7 +4,7 @@ use mathlib.Core.Path.{_≡_, refl, ap, _∙_}
 use mathlib.Core.List.{List, [], _∷_}
 use native.Mathlib.Nat.{mod-add-div, not-suc-le-zero}
 use native.Mathlib.Omega.{arith}
-use lib.ListN.{length, getD, set, length-set}
+use lib.ListN.{length, getD, set}
 use Rattle.records.specs.Bytes.{cell, setCell, cellsOf}
 
 -- the cell after cell k starts two bytes later
@@ -14,11 +14,6 @@ two-suc k = omega arith
 -- the second byte of a cell after cell k is two bytes later too
 pub two-suc′ : (k : ℕ) → suc (suc (2 * k)) + 1 ≡ suc (suc (2 * k + 1))
 two-suc′ k = omega arith
-
--- a store into a cell keeps the number of bytes
-pub length-setCell : (b : List ℕ) (k v : ℕ) → length (setCell b k v) ≡ length b
-unfolding setCell
-length-setCell b k v = simp length-set
 
 -- a store into cell k changes element k of the list of cells, and nothing else
 pub cellsOf-set : (b : List ℕ) (k v : ℕ) → cellsOf (setCell b k v) ≡ set (cellsOf b) k v

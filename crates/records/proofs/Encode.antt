@@ -1,32 +1,18 @@
 -- Laws of encoding: from cells to bytes and back. Assumes nothing.
-use Prim.Native.Nat.{ℕ, zero, suc, _+_, _*_, _/_, _%_, _<_, _≤_}
+use Prim.Native.Nat.{ℕ, zero, suc, _+_, _*_, _/_, _%_, _<_}
 use mathlib.Core.Path.{_≡_, refl, ap, _∙_, sym}
-use mathlib.Core.List.{List, [], _∷_, _++_}
-use native.Mathlib.Nat.{mod-add-div, not-suc-le-zero}
+use mathlib.Core.List.{List, [], _∷_}
+use native.Mathlib.Nat.{mod-add-div}
 use native.Mathlib.Omega.{arith}
-use lib.ListN.{length, getD, set, drop, take, replicate, take-append-drop}
-use lib.Seq.{length-take-le}
-use Rattle.records.specs.Bytes.{cell, setCell, cellsOf, encode}
-use Rattle.records.proofs.CellLaws.{two-suc, two-suc′}
-
--- n cells take 2 n bytes
-pub length-encode : (cs : List ℕ) → length (encode cs) ≡ 2 * length cs
-unfolding encode
-length-encode [] = refl
-length-encode (v ∷ cs) = let h = length-encode cs in omega arith
+use lib.ListN.{length, getD, take, replicate}
+use Rattle.records.specs.Bytes.{cellsOf, encode}
+use Rattle.records.proofs.CellLaws.{two-suc}
 
 -- cells that are written as bytes are read back as they were
 pub cellsOf-encode : (cs : List ℕ) → cellsOf (encode cs) ≡ cs
 unfolding encode cellsOf
 cellsOf-encode [] = refl
 cellsOf-encode (v ∷ cs) = λ i. mod-add-div v 256 i ∷ cellsOf-encode cs i
-
--- in bytes that hold the cells cs and then rest, a store into cell k is a store into element k of cs
-pub setCell-encode : (cs rest : List ℕ) (k v : ℕ) → k < length cs → setCell (encode cs ++ rest) k v ≡ encode (set cs k v) ++ rest
-unfolding encode setCell
-setCell-encode [] rest k v h = absurd (not-suc-le-zero h)
-setCell-encode (c ∷ cs) rest zero v h = refl
-setCell-encode (c ∷ cs) rest (suc k) v h = rw (two-suc k, two-suc′ k) (ap (λ (l : List ℕ). c % 256 ∷ c / 256 ∷ l) (setCell-encode cs rest k v (omega arith)))
 
 -- an even number of bytes is what its cells are written as
 pub encode-cellsOf : (n : ℕ) (b : List ℕ) → length b ≡ 2 * n → ((i : ℕ) → getD b i 0 < 256) → encode (cellsOf b) ≡ b
@@ -45,24 +31,11 @@ encode-cellsOf (suc n) (x ∷ y ∷ t) l h =
 pub cells-pin : (n : ℕ) (a b : List ℕ) → length a ≡ 2 * n → length b ≡ 2 * n → ((i : ℕ) → getD a i 0 < 256) → ((i : ℕ) → getD b i 0 < 256) → cellsOf a ≡ cellsOf b → a ≡ b
 cells-pin n a b p q f g e = sym (encode-cellsOf n a p f) ∙ ap encode e ∙ encode-cellsOf n b q g
 
--- n cells that are 0 are written as 2 n bytes that are 0
-pub encode-zeros : (n : ℕ) → encode (replicate n 0) ≡ replicate (2 * n) 0
-unfolding encode
-encode-zeros zero = refl
-encode-zeros (suc n) = rw (two-suc n) (ap (λ (l : List ℕ). 0 ∷ 0 ∷ l) (encode-zeros n))
-
 -- 2 n bytes that are 0 hold n cells that are 0
 pub cellsOf-zeros : (n : ℕ) → cellsOf (replicate (2 * n) 0) ≡ replicate n 0
 unfolding cellsOf
 cellsOf-zeros zero = refl
 cellsOf-zeros (suc n) = rw (two-suc n) (ap (λ (l : List ℕ). 0 ∷ l) (cellsOf-zeros n))
-
--- in bytes that hold the cells cs and then rest, cell k is element k of cs
-pub cell-encode : (cs rest : List ℕ) (k : ℕ) → k < length cs → cell (encode cs ++ rest) k ≡ getD cs k 0
-unfolding encode cell
-cell-encode [] rest k h = absurd (not-suc-le-zero h)
-cell-encode (c ∷ cs) rest zero h = mod-add-div c 256
-cell-encode (c ∷ cs) rest (suc k) h = rw (two-suc k, two-suc′ k) (cell-encode cs rest k (omega arith))
 
 -- cells that fit into two bytes are written as bytes
 pub encode-bytes : (cells : List ℕ) → ((k : ℕ) → getD cells k 0 < 65536) → (i : ℕ) → getD (encode cells) i 0 < 256
@@ -78,7 +51,3 @@ take-bytes zero b h i = omega arith
 take-bytes (suc n) [] h i = omega arith
 take-bytes (suc n) (x ∷ b) h zero = h 0
 take-bytes (suc n) (x ∷ b) h (suc i) = take-bytes n b (λ j. h (suc j)) i
-
--- a list of bytes is its first n cells, written, and then the rest
-pub holds : (n : ℕ) (b : List ℕ) → 2 * n ≤ length b → ((i : ℕ) → getD b i 0 < 256) → b ≡ encode (cellsOf (take (2 * n) b)) ++ drop (2 * n) b
-holds n b l h = sym (ap (λ (t : List ℕ). t ++ drop (2 * n) b) (encode-cellsOf n (take (2 * n) b) (length-take-le (2 * n) b l) (take-bytes (2 * n) b h)) ∙ take-append-drop (2 * n) b)

@@ -4,7 +4,7 @@ use mathlib.Core.Path.{_≡_, refl, ap, _∙_, sym}
 use mathlib.Core.List.{List, [], _∷_, _++_}
 use native.Mathlib.Nat.{zero-add}
 use native.Mathlib.Omega.{arith}
-use lib.ListN.{length, getD, take, drop, length-append, length-drop, drop-of-length-le, take-append-drop}
+use lib.ListN.{length, getD, take, drop, length-drop, drop-of-length-le, take-append-drop}
 use lib.Seq.{length-take-le, take-at, drop-at, drop-drop, getD-drop, ext-getD}
 use Rattle.basics.specs.Tools.{each}
 use Rattle.basics.proofs.Tables.{length-each, getD-each}
@@ -77,14 +77,6 @@ unfolding circuitsIn
 file-written-read m s l h =
     let n : length s / 8 ≡ m = omega arith in
     ap (λ (j : ℕ). fileOf (circuitsIn j s)) n ∙ written-from m 0 s (omega arith) h
-
--- writing a record keeps the length
-pub length-putRecord : (s : List ℕ) (i : ℕ) (r : List ℕ) → length r ≡ 8 → 8 * i + 8 ≤ length s → length (putRecord s i r) ≡ length s
-unfolding putRecord
-length-putRecord s i r e h =
-    let t = length-take-le (8 * i) s (omega arith) in
-    let d = length-drop (8 * i + 8) s in
-    length-append (take (8 * i) s) (r ++ drop (8 * i + 8) s) ∙ omega (arith, length-append r (drop (8 * i + 8) s))
 
 -- what is written as record i is read back as record i
 pub putRecord-same : (s : List ℕ) (i : ℕ) (r : List ℕ) → 8 * i + 8 ≤ length s → length r ≡ 8 → recordAt (putRecord s i r) i ≡ r

@@ -1,14 +1,12 @@
 -- Laws of parts: lists of a known length, records that are stored, and parts that were lent and came back. Assumes nothing.
-use Prim.Native.Nat.{ℕ, zero, suc, _+_, _/_, _%_, _-_, _≤_}
+use Prim.Native.Nat.{ℕ, zero, suc, _+_, _/_, _%_}
 use mathlib.Core.Path.{_≡_, refl, ap, _∙_, sym}
 use mathlib.Core.List.{List, [], _∷_, _++_, append-assoc, append-nil}
 use native.Mathlib.Omega.{arith}
-use native.Mathlib.Nat.{le-refl, zero-add, suc-add}
-use lib.ListN.{length, getD, set, drop, take, length-drop, drop-of-length-le, replicate}
-use borrow.Rule.Slice.PartMut.{putMid, midOf, postOf}
+use lib.ListN.{length, getD, drop, take, drop-of-length-le, replicate}
 use Rattle.records.specs.Bytes.{bytes16, bytes32, setCell, encode}
 use Rattle.records.specs.Records.{putRecord}
-use lib.Seq.{getD-append-add, take-at, drop-append-add, drop-drop, take-all}
+use lib.Seq.{getD-append-add, take-at, drop-append-add, drop-drop}
 
 -- the first n elements, written out one by one
 abbrev pub firsts : ℕ → List ℕ → List ℕ
@@ -45,26 +43,9 @@ pub put-wide : (t s : List ℕ) (i low high v c d : ℕ) → low ≡ v % 65536 �
 unfolding encode
 put-wide t s i low high v c d p q e = e ∙ (λ k. putRecord s i (encode (p k ∷ q k ∷ c ∷ d ∷ [])))
 
--- the part of xs from a on was lent, b was written at its start, and it came back: b stands at a and all else is as it was
-pub tail-back : (a k : ℕ) (xs ys b : List ℕ) → ys ≡ b ++ drop k (midOf a (length xs - a) xs) → putMid a (length xs - a) xs ys ≡ take a xs ++ (b ++ drop (a + k) xs)
-tail-back a k xs ys b h =
-    let l : length (drop a xs) ≤ length xs - a = rw length-drop (le-refl (length xs - a)) in
-    let m : midOf a (length xs - a) xs ≡ drop a xs = take-all (length xs - a) (drop a xs) l in
-    let p : postOf a (length xs - a) xs ≡ [] = drop-of-length-le (drop a xs) {i = length xs - a} l in
-    ap (λ (z : List ℕ). take a xs ++ z)
-    ((λ i. ys ++ p i) ∙ append-nil ys ∙ h ∙ ap (λ (z : List ℕ). b ++ drop k z) m ∙ ap (λ (z : List ℕ). b ++ z) (drop-drop k a xs))
-
 -- a list of k elements of which k became zero is k zeros
 pub zeroed : (w w₀ : List ℕ) (k : ℕ) → length w₀ ≡ k → w ≡ replicate k 0 ++ drop k w₀ → w ≡ replicate k 0
 zeroed w w₀ k l h = h ∙ ap (λ (t : List ℕ). replicate k 0 ++ t) (drop-of-length-le w₀ {i = k} (omega arith)) ∙ append-nil (replicate k 0)
-
--- a store past the first n elements is a store into what follows them
-pub set-right : (a b : List ℕ) (n i v : ℕ) → length a ≡ n → set (a ++ b) (n + i) v ≡ a ++ set b i v
-set-right a b n i v e = rw (← e) (go a b i v)
-  where
-    go : (a b : List ℕ) (i v : ℕ) → set (a ++ b) (length a + i) v ≡ a ++ set b i v
-    go [] b i v = rw zero-add
-    go (x ∷ a) b i v = rw suc-add (ap (λ (l : List ℕ). x ∷ l) (go a b i v))
 
 -- an element past the first n is an element of what follows them
 pub getD-right : (a b : List ℕ) (n i : ℕ) → length a ≡ n → getD (a ++ b) (n + i) 0 ≡ getD b i 0

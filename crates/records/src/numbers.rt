@@ -4,6 +4,7 @@ ghost use Prim.Native.Nat.{_+_, _/_, _%_, _<_};
 ghost use lib.ListN.{length};
 ghost use Rattle.records.specs.Bytes.{le16, le32};
 
+// A byte, as a wider number.
 fn wide(x: u8) -> u16
     ensures { λ r. ⌜ (r ≡ x) × (r < 256) ⌝ }
 {
@@ -18,6 +19,7 @@ pub fn read16(s: &[u8], k: usize) -> u16
     wide(s[k]) + 256 * wide(s[k + 1])
 }
 
+// A 2-byte number, as a wider one.
 fn wide32(x: u16) -> u32
     ensures { λ r. ⌜ (r ≡ x) × (r < 65536) ⌝ }
 {

@@ -7,7 +7,7 @@ use Rattle.basics.specs.Tools.{each}
 use Rattle.basics.proofs.Tables.{length-each}
 use Rattle.method.specs.Line.{Lies}
 use Rattle.method.specs.Sheet.{State, at, need, most, paint, act, fresh, begun, row, rows, sheet, rowOf}
-use Rattle.method.proofs.Links.{lay}
+use Rattle.method.proofs.Links.{lies-there}
 use Rattle.method.proofs.Colours.{at-each}
 use Rattle.method.proofs.Steps.{steps-keep}
 use Rattle.method.proofs.Placed.{after}
@@ -32,7 +32,7 @@ filled-parts n m w cs C lies p e =
     let s : State = sheet n w cs k in
     let N : List ℕ = each (need w cs) 1 n in
     let S : List ℕ = replicate (length cs) 0 in
-    let t = parts n m N (s .colours) (s .rows) S C (length-each (need w cs) 1 n) (length-sheet n w cs k) ((after n w cs (lay n cs lies) k) .sized ∙ sym p)
+    let t = parts n m N (s .colours) (s .rows) S C (length-each (need w cs) 1 n) (length-sheet n w cs k) ((after n w cs (lies-there n cs lies) k) .sized ∙ sym p)
     (e ∙ append-assoc (N ++ s .colours) (s .rows) S ∙ append-assoc N (s .colours) (s .rows ++ S)) in
     record { needs = t .0; state = t .1; spare = t .2 ∙ ap (λ (z : ℕ). replicate {A = ℕ} z 0) (sym p) }
 

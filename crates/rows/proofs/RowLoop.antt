@@ -6,7 +6,7 @@ use mathlib.Core.List.{List}
 use native.Mathlib.Omega.{arith}
 use Rattle.method.specs.Line.{Lies}
 use Rattle.method.specs.Sheet.{State, runFrom, step, steps}
-use Rattle.method.proofs.Links.{lay}
+use Rattle.method.proofs.Links.{lies-there}
 use Rattle.method.proofs.Colours.{from-pos, from-open}
 use Rattle.method.proofs.Closed.{opens, opens-le, opens-some, step-falls, steps-idle}
 use Rattle.records.specs.declared.Circuit.{Circuit}
@@ -38,10 +38,10 @@ module _ (n : ℕ) (cs : List Circuit) (lies : Lies n cs) (k : ℕ) where
       -- where f steps are left
       go : (f : ℕ) → opens n s ≤ f → steps n cs f k s ≡ end → InLoop n cs k end (step n cs k s)
       go zero b q = absurd (omega (arith, some-open n s l))
-      go (suc f) b q = record { left = f; enough = ⊎-elim (λ t. omega arith) (λ t. omega arith) (step-falls n cs (lay n cs lies) k s); leads = q }
+      go (suc f) b q = record { left = f; enough = ⊎-elim (λ t. omega arith) (λ t. omega arith) (step-falls n cs (lies-there n cs lies) k s); leads = q }
 
   -- the step leaves fewer links open
   pub loop-less : (s : State) → runFrom n (s .colours) ≤ n → opens n (step n cs k s) < opens n s
   loop-less s l =
       let o = some-open n s l in
-      ⊎-elim (λ t. t) (λ t. omega arith) (step-falls n cs (lay n cs lies) k s)
+      ⊎-elim (λ t. t) (λ t. omega arith) (step-falls n cs (lies-there n cs lies) k s)

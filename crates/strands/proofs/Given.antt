@@ -14,7 +14,7 @@ use Rattle.records.specs.declared.Circuit.{Circuit}
 use Rattle.method.specs.Fibres.{assignments, fibres, find, given, layerOf, pairOf, pairs, plan}
 use Rattle.method.specs.Line.{Lies, assigned, circuit, over, unassigned, uses}
 use Rattle.method.specs.Sheet.{most, need, redTo, rows}
-use Rattle.method.proofs.Links.{lay, on-line, proper, uses-of}
+use Rattle.method.proofs.Links.{lies-there, on-line, proper, uses-of}
 use Rattle.method.proofs.Placed.{after, all-placed}
 use Rattle.method.proofs.FibreLists.{length-twice}
 use Rattle.method.proofs.Few.{few-pairs}
@@ -42,27 +42,27 @@ module _ (n w : ℕ) (cs : List Circuit) (lies : Lies n cs) (pos : 1 ≤ w) (j :
   -- it has a row
   pub placed : row ≢ 0
   unfolding rows
-  placed = all-placed n w cs (lay n cs lies) pos j l ends
+  placed = all-placed n w cs (lies-there n cs lies) pos j l ends
 
   -- its layer is one of the M layers
   pub in-top : (row - 1) / w < most n w cs
   unfolding rows
-  in-top = div-lt-iff-lt-mul {k = w} {x = row - 1} {y = most n w cs} pos .1 (let p = placed in omega (arith, (after n w cs (lay n cs lies) (most n w cs * w)) .marked j))
+  in-top = div-lt-iff-lt-mul {k = w} {x = row - 1} {y = most n w cs} pos .1 (let p = placed in omega (arith, (after n w cs (lies-there n cs lies) (most n w cs * w)) .marked j))
 
   -- it uses its first link
   first-used : uses (circuit cs j) ((circuit cs j) .first) ≡ true
-  first-used = uses-of (circuit cs j) ((circuit cs j) .first) (omega arith) (proper n cs (lay n cs lies) j l ends)
+  first-used = uses-of (circuit cs j) ((circuit cs j) .first) (omega arith) (proper n cs (lies-there n cs lies) j l ends)
 
   -- its first link is on the line
   pub first-on : (1 ≤ (circuit cs j) .first) × ((circuit cs j) .first ≤ n)
-  first-on = on-line n cs (lay n cs lies) j ((circuit cs j) .first) first-used
+  first-on = on-line n cs (lies-there n cs lies) j ((circuit cs j) .first) first-used
 
   -- its first link is in a run of its layer
   pub reach : most n w cs - (row - 1) / w ≤ need w cs ((circuit cs j) .first)
   unfolding rows redTo
   reach =
       let x = (circuit cs j) .first in
-      let c = (after n w cs (lay n cs lies) (most n w cs * w)) .clear j x placed first-used in
+      let c = (after n w cs (lies-there n cs lies) (most n w cs * w)) .clear j x placed first-used in
       let z : most n w cs - need w cs x ≤ (row - 1) / w = le-div-iff-mul-le {k = w} {x = most n w cs - need w cs x} {y = row - 1} pos .1 (omega arith) in
       omega arith
 
@@ -85,4 +85,4 @@ module _ (n w : ℕ) (cs : List Circuit) (lies : Lies n cs) (pos : 1 ≤ w) (j :
       let e : assigned (plan n w cs) j ≡ given n w cs (rows n w cs) j = getD-each (given n w cs (rows n w cs)) 0 (length cs) j unassigned l ∙ ap (given n w cs (rows n w cs)) (omega arith) in
       let v = (plan-valid n w cs lies pos) .numbered j l in
       let v₁ = v .1 in
-      omega (arith, ap (λ x. x .fibre) e, length-twice (pairs n w cs), few-pairs n w cs (lay n cs lies) pos)
+      omega (arith, ap (λ x. x .fibre) e, length-twice (pairs n w cs), few-pairs n w cs (lies-there n cs lies) pos)

@@ -15,7 +15,7 @@ use Rattle.records.proofs.Files.{length-circuitsIn}
 use Rattle.method.specs.Line.{Lies}
 use Rattle.method.specs.Sheet.{at, most, need, rows}
 use Rattle.method.proofs.Colours.{at-each}
-use Rattle.method.proofs.Links.{lay}
+use Rattle.method.proofs.Links.{lies-there}
 use Rattle.method.proofs.Placed.{after}
 use Rattle.rows.specs.Accepted.{Accepted}
 use Rattle.strands.specs.Area.{rowsIn, Ready}
@@ -30,7 +30,7 @@ at-append a b (suc x) l h = List·getD-append a b 0 x (omega arith)
 -- each circuit has a row
 rows-long : (n w : ℕ) (cs : List Circuit) → Lies n cs → length (rows n w cs) ≡ length cs
 unfolding rows
-rows-long n w cs lies = (after n w cs (lay n cs lies) (most n w cs * w)) .sized
+rows-long n w cs lies = (after n w cs (lies-there n cs lies) (most n w cs * w)) .sized
 
 -- the regions: c(i), colours, rows, spare
 pub handed : (n w m top : ℕ) (s work colours spare : List ℕ) → Accepted n w m s → length work ≡ 4 * n + 4 * m → top ≡ most n w (circuitsIn m s) → length colours ≡ n

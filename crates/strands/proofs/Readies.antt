@@ -18,7 +18,7 @@ use Rattle.records.proofs.Files.{length-circuitsIn}
 use Rattle.method.specs.Fibres.{onFirst, pairOf, pairs}
 use Rattle.method.specs.Sheet.{at, most, need, rows}
 use Rattle.method.proofs.Few.{few-pairs}
-use Rattle.method.proofs.Links.{lay}
+use Rattle.method.proofs.Links.{lies-there}
 use Rattle.method.proofs.Placed.{few-rows}
 use Rattle.method.proofs.ValidPlan.{first-any-run}
 use Rattle.rows.specs.Accepted.{Accepted}
@@ -104,7 +104,7 @@ module _ (n w m top : ℕ) (s b : List ℕ) (acc : Accepted n w m s) (rdy : Read
 
   -- at most one pair for each circuit
   pub pairs-few : length (layersBy (at (cellsOf b)) n top top) ≤ m
-  pairs-few = omega (arith, ap length pairs-are, few-pairs n w (circuitsIn m s) (lay n (circuitsIn m s) (acc .lies)) (acc .waves .0), length-circuitsIn m s)
+  pairs-few = omega (arith, ap length pairs-are, few-pairs n w (circuitsIn m s) (lies-there n (circuitsIn m s) (acc .lies)) (acc .waves .0), length-circuitsIn m s)
 
   -- M is small
   pub top-small : top ≤ 2048
