@@ -4,3 +4,4 @@ pub mod Tables
 pub mod Counts
 pub mod Sums
 pub mod Loops
+pub mod Pins

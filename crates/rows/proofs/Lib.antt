@@ -11,3 +11,4 @@ pub mod RowLoop
 pub mod RowLaws
 pub mod FillLaws
 pub mod FilledLaws
+pub mod Pinned
