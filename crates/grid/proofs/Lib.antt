@@ -1,0 +1,2 @@
+pub mod FrequencyLaws
+pub mod Cases

@@ -1,0 +1,17 @@
+-- `write_refusal` meets its contract. Assumes nothing.
+use borrow.Author.Needs.{needs}
+use native.Mathlib.Omega.{arith}
+use Rattle.sheet_text.specs.Text.{refusalLine}
+use Rattle.sheet_text.proofs.Lengths.{length-twenty}
+use Rattle.sheet_text.proofs.write_refusal.Statement.{statement}
+use Rattle.sheet_text.proofs.write_refusal.Tie as tie
+
+write-two-requires : tie.Need-write-two-requires
+write-two-requires c κs = omega (arith, length-twenty (c .before .before .args .number), length-twenty (c .before .before .args .place))
+
+returns : tie.Need-returns
+unfolding refusalLine
+returns c = (c .before .before .write-two .ensures .0, c .before .before .write-two .ensures .1)
+
+pub write-refusal-spec : {M : Type 1} → statement M
+write-refusal-spec = tie.close (tie.spec write-two-requires (λ c. search needs) returns)
