@@ -6,7 +6,6 @@ use mathlib.Core.Path.{_∙_, ap, sym}
 use native.Mathlib.Omega.{arith}
 use Rattle.records.specs.Records.{circuitsOf}
 use Rattle.records.proofs.Files.{circuitsIn-at, length-circuitsIn}
-use Rattle.method.specs.Fibres.{fibres}
 use Rattle.method.specs.Line.{Distinct, Lies, circuit, nobody}
 use Rattle.refusals.specs.Given.{NoneApplies}
 use Rattle.refusals.specs.Table.{planTable}

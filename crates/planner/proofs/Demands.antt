@@ -7,13 +7,13 @@ use mathlib.Core.Path.{_∙_, _≡_, ap, refl, subst, sym}
 use native.Mathlib.Omega.{arith}
 use Rattle.records.specs.Records.{assignmentBytes, circuitOf, circuitsOf, recordAt}
 use Rattle.records.proofs.Files.{circuitsIn-at, length-circuitsIn}
-use Rattle.method.specs.Demands.{Rearranged, SamePlan}
-use Rattle.method.specs.Fibres.{assignments, fibres, floor, plan}
+use Rattle.method.specs.Demands.{SamePlan}
+use Rattle.method.specs.Fibres.{assignments, fibres, plan}
 use Rattle.method.specs.Line.{Plan, Valid, assigned, circuit, fibresOver, noFibre, nobody, total, unassigned}
 use Rattle.planner.specs.declared.Answer.the-variants.{Planned, Refused}
 use Rattle.refusals.specs.declared.Test.the-variants.{Checked, Refused as Failed}
 use Rattle.planner.specs.Outcome.{Outcome, answerBy, ifAccepted, judged, zeroedTo}
-use Rattle.planner.specs.Seen.{SameSheet, Seen1, Seen2, Seen3, planIn}
+use Rattle.planner.specs.Seen.{SameSheet, Seen, Seen1, Seen2, Seen3, TwoOrders, planIn, tests}
 use Rattle.planner.specs.declared.Answer.{Answer}
 use Rattle.refusals.specs.Given.{NoneApplies}
 use Rattle.refusals.specs.Table.{Row, planTable}
@@ -23,7 +23,7 @@ use Rattle.strands.specs.Laid.{assignmentList, countsOf, fibreList}
 use Rattle.strands.specs.Lists.{assignmentRecord, assignmentRecords, fibreRecord, fibreRecords}
 use Rattle.strands.specs.declared.Counts.{Counts}
 use Rattle.method.proofs.Demands.{demand-2, demand-3}
-use Rattle.planner.proofs.Accepting.{accepted, distinct, rooms}
+use Rattle.planner.proofs.Accepting.{accepted, distinct}
 use Rattle.planner.proofs.Reading.{assignment-read, assignment-record, fibre-read, fibre-record, length-assignmentRecords, length-assignments, length-fibreRecords, plan-read}
 use Rattle.planner.proofs.Reordered.{reordered-passes}
 use Rattle.refusals.proofs.First.{verdict-given, verdict-passed, verdict-passes, verdict-refused}
@@ -35,7 +35,7 @@ planned-not-refused e = absurd (let z : _≡_ {A = ℕ} 0 1 = cc in omega arith)
 module _ (n w : ℕ) (s fibres₀ assigns₀ work₀ fibres₁ assigns₁ work₁ : List ℕ) (answer : Answer) (o : Outcome n w s fibres₀ assigns₀ work₀ fibres₁ assigns₁ work₁ answer) where
   -- the table of refusals for this input
   abbrev rows-of : List Row
-  rows-of = planTable n w s (length fibres₀) (length assigns₀) (length work₀)
+  rows-of = tests n w s fibres₀ assigns₀ work₀ fibres₁ assigns₁ work₁
 
   -- a refusal is the verdict's, and changes nothing
   refused-so : (number place : ℕ) → answer ≡ Refused number place
@@ -134,7 +134,7 @@ module _ (n w : ℕ) (s fibres₀ assigns₀ work₀ fibres₁ assigns₁ work�
         ∙ assignment-record 0 (circuitsOf s) (assignments n w (circuitsOf s)) (drop (length s) assigns₀) j (length-assignments n w (circuitsOf s)) (omega (arith, many))
 
     -- demand 2
-    pub seen-2 : Seen2 n w s fibres₀ assigns₀ work₀ fibres₁ assigns₁ work₁ answer counts
+    pub seen-2 : Seen2 n w s fibres₀ assigns₀ work₀ fibres₁ assigns₁ work₁ counts
     unfolding plan countsOf
     seen-2 =
         let cs = circuitsOf s in
@@ -161,7 +161,7 @@ module _ (n w : ℕ) (s fibres₀ assigns₀ work₀ fibres₁ assigns₁ work�
         }
 
     -- demand 3
-    pub seen-3 : Seen3 n w s fibres₀ assigns₀ work₀ fibres₁ assigns₁ work₁ answer counts
+    pub seen-3 : Seen3 n w s fibres₀ assigns₀ work₀ fibres₁ assigns₁ work₁ counts
     unfolding plan
     seen-3 =
         let d = demand-3 n w (circuitsOf s) (took .lies) (took .waves .0) in
@@ -170,38 +170,46 @@ module _ (n w : ℕ) (s fibres₀ assigns₀ work₀ fibres₁ assigns₁ work�
           twice-total = λ p v. omega (arith, total-is, d .twice-total p v);
         }
 
+-- every call of `plan` meets the demands
+pub seen : (n w : ℕ) (s fibres₀ assigns₀ work₀ fibres₁ assigns₁ work₁ : List ℕ) (answer : Answer) → Outcome n w s fibres₀ assigns₀ work₀ fibres₁ assigns₁ work₁ answer
+    → Seen n w s fibres₀ assigns₀ work₀ fibres₁ assigns₁ work₁ answer
+seen n w s fibres₀ assigns₀ work₀ fibres₁ assigns₁ work₁ answer o =
+    record {
+      demand-1 = seen-1 n w s fibres₀ assigns₀ work₀ fibres₁ assigns₁ work₁ answer o;
+      demand-2 = seen-2 n w s fibres₀ assigns₀ work₀ fibres₁ assigns₁ work₁ answer o;
+      demand-3 = seen-3 n w s fibres₀ assigns₀ work₀ fibres₁ assigns₁ work₁ answer o;
+    }
+
 -- TWO CALLS with the same records in another file order, and lent areas of the same lengths
 module _ (n w : ℕ) (s fibres₀ assigns₀ work₀ fibres₁ assigns₁ work₁ s' fibres₀' assigns₀' work₀' fibres₁' assigns₁' work₁' : List ℕ) (answer answer' : Answer)
-    (o : Outcome n w s fibres₀ assigns₀ work₀ fibres₁ assigns₁ work₁ answer) (o' : Outcome n w s' fibres₀' assigns₀' work₀' fibres₁' assigns₁' work₁' answer')
-    (long : length s' ≡ length s) (same : Rearranged (circuitsOf s) (circuitsOf s'))
-    (rooms : (length fibres₀' ≡ length fibres₀) × (length assigns₀' ≡ length assigns₀) × (length work₀' ≡ length work₀))
+    (orders : TwoOrders n w s fibres₀ assigns₀ work₀ fibres₁ assigns₁ work₁ s' fibres₀' assigns₀' work₀' fibres₁' assigns₁' work₁' answer answer')
     (counts : Counts) (e : answer ≡ Planned counts) where
   -- what the first call's tests left
   passed : NoneApplies (planTable n w s (length fibres₀) (length assigns₀) (length work₀))
-  passed = planned-so n w s fibres₀ assigns₀ work₀ fibres₁ assigns₁ work₁ answer o counts e .0
+  passed = planned-so n w s fibres₀ assigns₀ work₀ fibres₁ assigns₁ work₁ answer (orders .one) counts e .0
 
   -- the plans are the same
   alike : SamePlan n w (circuitsOf s) (circuitsOf s')
   alike =
       let a = accepted n w s _ _ _ passed in
-      demand-2 n w (circuitsOf s) (a .lies) (a .waves .0) .any-order (circuitsOf s') (distinct n w s _ _ _ passed) same
+      demand-2 n w (circuitsOf s) (a .lies) (a .waves .0) .any-order (circuitsOf s') (distinct n w s _ _ _ passed) (orders .same)
 
   -- the second call's tests leave it too
   passed' : NoneApplies (planTable n w s' (length fibres₀') (length assigns₀') (length work₀'))
-  passed' = rw (rooms .0, rooms .1, rooms .2) (reordered-passes n w s s' _ _ _ long same passed)
+  passed' = rw (orders .rooms .0, orders .rooms .1, orders .rooms .2) (reordered-passes n w s s' _ _ _ (orders .long) (orders .same) passed)
 
   -- so it is planned, with the same numbers
   planned-too : answer' ≡ Planned counts
   unfolding countsOf
   planned-too =
-      let p = seen-1 n w s' fibres₀' assigns₀' work₀' fibres₁' assigns₁' work₁' answer' o' .otherwise-planned passed' in
+      let p = seen-1 n w s' fibres₀' assigns₀' work₀' fibres₁' assigns₁' work₁' answer' (orders .two) .otherwise-planned passed' in
       let numbers : countsOf n w (circuitsOf s) ≡ countsOf n w (circuitsOf s') =
       λ i. record { fibres = length (alike .fibres-same i); total = alike .total-same i; floor = alike .floor-same i } in
       p .1
       ∙ ap Planned
-      (planned-so n w s' fibres₀' assigns₀' work₀' fibres₁' assigns₁' work₁' answer' o' (p .0) (p .1) .1
+      (planned-so n w s' fibres₀' assigns₀' work₀' fibres₁' assigns₁' work₁' answer' (orders .two) (p .0) (p .1) .1
       ∙ sym numbers
-      ∙ sym (planned-so n w s fibres₀ assigns₀ work₀ fibres₁ assigns₁ work₁ answer o counts e .1))
+      ∙ sym (planned-so n w s fibres₀ assigns₀ work₀ fibres₁ assigns₁ work₁ answer (orders .one) counts e .1))
 
   -- the number of a circuit, read and listed
   number-read : (r : List ℕ) (i : ℕ) → i < length r / 8 → (getD (circuitsOf r) i nobody) .number ≡ (circuitOf (recordAt r i)) .number
@@ -213,22 +221,22 @@ module _ (n w : ℕ) (s fibres₀ assigns₀ work₀ fibres₁ assigns₁ work�
   same-sheet =
       let fs = fibres n w (circuitsOf s) in
       let fs' = fibres n w (circuitsOf s') in
-      let many-fibres = fibre-count n w s fibres₀ assigns₀ work₀ fibres₁ assigns₁ work₁ answer o counts e in
-      let many-fibres' = fibre-count n w s' fibres₀' assigns₀' work₀' fibres₁' assigns₁' work₁' answer' o' counts planned-too in
+      let many-fibres = fibre-count n w s fibres₀ assigns₀ work₀ fibres₁ assigns₁ work₁ answer (orders .one) counts e in
+      let many-fibres' = fibre-count n w s' fibres₀' assigns₀' work₀' fibres₁' assigns₁' work₁' answer' (orders .two) counts planned-too in
       record {
         same-answer = planned-too;
         same-fibres =
-            ap (take (8 * counts .fibres)) (fibres-are n w s' fibres₀' assigns₀' work₀' fibres₁' assigns₁' work₁' answer' o' counts planned-too)
+            ap (take (8 * counts .fibres)) (fibres-are n w s' fibres₀' assigns₀' work₀' fibres₁' assigns₁' work₁' answer' (orders .two) counts planned-too)
             ∙ take-at (fibreRecords 0 fs') _ (8 * counts .fibres) (omega (arith, length-fibreRecords 0 fs'))
             ∙ ap (fibreRecords 0) (sym (alike .fibres-same))
             ∙ sym
-            (ap (take (8 * counts .fibres)) (fibres-are n w s fibres₀ assigns₀ work₀ fibres₁ assigns₁ work₁ answer o counts e)
+            (ap (take (8 * counts .fibres)) (fibres-are n w s fibres₀ assigns₀ work₀ fibres₁ assigns₁ work₁ answer (orders .one) counts e)
             ∙ take-at (fibreRecords 0 fs) _ (8 * counts .fibres) (omega (arith, length-fibreRecords 0 fs)));
         same-assignment = λ i j a b q.
             let number : (getD (circuitsOf s) i nobody) .number ≡ (getD (circuitsOf s') j nobody) .number = number-read s i a ∙ q ∙ sym (number-read s' j b) in
             let given-same = alike .assigned-same i j (omega (arith, length-circuitsIn (length s / 8) s)) (omega (arith, length-circuitsIn (length s' / 8) s')) number in
             sym
-            (assignment-at n w s fibres₀ assigns₀ work₀ fibres₁ assigns₁ work₁ answer o counts e i a
+            (assignment-at n w s fibres₀ assigns₀ work₀ fibres₁ assigns₁ work₁ answer (orders .one) counts e i a
             ∙ (λ x. assignmentBytes (record { circuit = number x; fibre = 0 + (given-same x) .fibre; wavelength = (given-same x) .wavelength }))
-            ∙ sym (assignment-at n w s' fibres₀' assigns₀' work₀' fibres₁' assigns₁' work₁' answer' o' counts planned-too j b));
+            ∙ sym (assignment-at n w s' fibres₀' assigns₀' work₀' fibres₁' assigns₁' work₁' answer' (orders .two) counts planned-too j b));
       }

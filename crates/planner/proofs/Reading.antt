@@ -10,8 +10,8 @@ use Rattle.basics.proofs.Tables.{length-each, table-is}
 use Rattle.records.specs.Records.{assignmentOf, fibreOf, recordAt}
 use Rattle.records.specs.declared.Circuit.{Circuit}
 use Rattle.records.proofs.Inverse.{assignment-read-written, fibre-read-written}
-use Rattle.method.specs.Fibres.{assignments, fibres, given, layer, plan}
-use Rattle.method.specs.Line.{Assignment, Fibre, Plan, circuit, noFibre, nobody, unassigned}
+use Rattle.method.specs.Fibres.{assignments, fibres, given, plan}
+use Rattle.method.specs.Line.{Assignment, Fibre, Plan, noFibre, nobody, unassigned}
 use Rattle.method.specs.Sheet.{rows}
 use Rattle.planner.specs.Seen.{placeOf, planIn, spanOf}
 use Rattle.strands.specs.Laid.{assignmentList, fibreList}

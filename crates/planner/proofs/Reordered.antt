@@ -13,7 +13,6 @@ use Rattle.records.specs.Records.{circuitOf, circuitsOf, recordAt}
 use Rattle.records.specs.declared.Circuit.{Circuit}
 use Rattle.records.proofs.Files.{circuitsIn-at, length-circuitsIn}
 use Rattle.method.specs.Demands.{Rearranged}
-use Rattle.method.specs.Fibres.{fibres}
 use Rattle.method.specs.Line.{circuit, nobody}
 use Rattle.refusals.specs.Given.{NoneApplies}
 use Rattle.refusals.specs.Table.{badEnds, firstRecord, numberIn, planTable, repeats, whenever}

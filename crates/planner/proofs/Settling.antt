@@ -13,7 +13,7 @@ use Rattle.records.specs.declared.Circuit.{Circuit}
 use Rattle.method.specs.Sheet.{State, need, most, rows, sheet}
 use Rattle.rows.specs.Accepted.{Accepted}
 use Rattle.rows.specs.Filled.{filled}
-use Rattle.rows.proofs.FilledLaws.{length-sheet}
+use Rattle.rows.proofs.SheetLength.{length-sheet}
 use Rattle.strands.specs.Area.{Ready}
 use Rattle.strands.proofs.Handed.{handed}
 use Rattle.planner.specs.Outcome.{zeroedTo}

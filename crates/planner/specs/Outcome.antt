@@ -13,7 +13,7 @@ use Rattle.strands.specs.Laid.{countsOf, fibreList, assignmentList}
 use Rattle.planner.specs.declared.Answer.{Answer}
 use Rattle.planner.specs.declared.Answer.the-variants.{Planned, Refused}
 
--- the refusal of a test that failed
+-- the refusal of a test that failed; of one that passed it is never asked
 abbrev pub refusalOf : Test → Answer
 refusalOf (Checked x) = Refused 0 0
 refusalOf (Failed number place) = Refused number place

@@ -1,4 +1,5 @@
--- The demands, about what a caller sees: the answer and the bytes of the lent areas. `proofs/Demands.antt` shows that every outcome meets them.
+-- The demands, about what a caller sees: the answer and the bytes of the lent areas. `proofs/Demands.antt` shows `seen`, that every call of `plan` meets `Seen`, and
+-- `same-sheet`, that of `TwoOrders`, if one call is planned, the other gives the `SameSheet`.
 -- Assumes nothing.
 use Prim.Native.Nat.{ℕ, suc, _+_, _*_, _/_, _≤_, _<_}
 use mathlib.Core.Path.{_≡_}
@@ -10,9 +11,11 @@ use Rattle.records.specs.declared.FibreRecord.{FibreRecord}
 use Rattle.records.specs.declared.AssignmentRecord.{AssignmentRecord}
 use Rattle.method.specs.Line.{Fibre, fibresOver, total, Assignment, Plan, Valid}
 use Rattle.method.specs.Fibres.{plan, floor}
-use Rattle.refusals.specs.Table.{planTable}
+use Rattle.method.specs.Demands.{Rearranged}
+use Rattle.refusals.specs.Table.{Row, planTable}
 use Rattle.refusals.specs.Given.{Given, NoneApplies}
 use Rattle.strands.specs.declared.Counts.{Counts}
+use Rattle.planner.specs.Outcome.{Outcome}
 use Rattle.planner.specs.declared.Answer.{Answer}
 use Rattle.planner.specs.declared.Answer.the-variants.{Planned, Refused}
 
@@ -32,12 +35,16 @@ planIn k m fibres assigns =
       assignments = each (λ j. placeOf (assignmentOf (recordAt assigns j))) 0 m;
     }
 
-module _ (n w : ℕ) (s fibres₀ assigns₀ work₀ fibres₁ assigns₁ work₁ : List ℕ) (answer : Answer) where
+module _ (n w : ℕ) (s fibres₀ assigns₀ work₀ fibres₁ assigns₁ work₁ : List ℕ) where
+  -- the table of refusals for this input
+  abbrev pub tests : List Row
+  tests = planTable n w s (length fibres₀) (length assigns₀) (length work₀)
+
   -- demand 1: a refusal is given exactly as tabled, and then no byte is changed
-  pub record Seen1 : Type 0 where
-    pub as-tabled : (number place : ℕ) → answer ≡ Refused number place → Given (planTable n w s (length fibres₀) (length assigns₀) (length work₀)) number place
-    pub whenever-tabled : (number place : ℕ) → Given (planTable n w s (length fibres₀) (length assigns₀) (length work₀)) number place → answer ≡ Refused number place
-    pub otherwise-planned : NoneApplies (planTable n w s (length fibres₀) (length assigns₀) (length work₀)) → (counts : Counts) × (answer ≡ Planned counts)
+  pub record Seen1 (answer : Answer) : Type 0 where
+    pub as-tabled : (number place : ℕ) → answer ≡ Refused number place → Given tests number place
+    pub whenever-tabled : (number place : ℕ) → Given tests number place → answer ≡ Refused number place
+    pub otherwise-planned : NoneApplies tests → (counts : Counts) × (answer ≡ Planned counts)
     pub unchanged : (number place : ℕ) → answer ≡ Refused number place → (fibres₁ ≡ fibres₀) × (assigns₁ ≡ assigns₀) × (work₁ ≡ work₀)
 
   -- demand 2: the lists hold the method's plan, numbered and in file order; it is valid; and the rest of the areas is as promised
@@ -59,9 +66,23 @@ module _ (n w : ℕ) (s fibres₀ assigns₀ work₀ fibres₁ assigns₁ work�
         → fibresOver ((planIn (counts .fibres) (length s / 8) fibres₁ assigns₁) .fibres) i ≤ 2 * fibresOver (p .fibres) i
     pub twice-total : (p : Plan) → Valid w (circuitsOf s) p → counts .total ≤ 2 * total (p .fibres)
 
--- another call with the same records in another file order: planned too, with the same numbers and fibre records, and each circuit's assignment record is the same
+  -- one call of `plan`: demand 1 in any case, demands 2 and 3 of the three numbers that it answers
+  pub record Seen (answer : Answer) : Type 0 where
+    pub demand-1 : Seen1 answer
+    pub demand-2 : (counts : Counts) → answer ≡ Planned counts → Seen2 counts
+    pub demand-3 : (counts : Counts) → answer ≡ Planned counts → Seen3 counts
+
+-- what is the same in another call, for file s' in place of s: the answer, the fibre records, and each circuit's assignment record
 pub record SameSheet (s s' fibres₁ assigns₁ fibres₁' assigns₁' : List ℕ) (counts : Counts) (answer' : Answer) : Type 0 where
   pub same-answer : answer' ≡ Planned counts
   pub same-fibres : take (8 * counts .fibres) fibres₁' ≡ take (8 * counts .fibres) fibres₁
   pub same-assignment : (i j : ℕ) → i < length s / 8 → j < length s' / 8 → (circuitOf (recordAt s i)) .number ≡ (circuitOf (recordAt s' j)) .number
       → recordAt assigns₁' j ≡ recordAt assigns₁ i
+
+-- two calls of `plan` with the same records in another file order, and lent areas of the same lengths
+pub record TwoOrders (n w : ℕ) (s fibres₀ assigns₀ work₀ fibres₁ assigns₁ work₁ s' fibres₀' assigns₀' work₀' fibres₁' assigns₁' work₁' : List ℕ) (answer answer' : Answer) : Type 0 where
+  pub one : Outcome n w s fibres₀ assigns₀ work₀ fibres₁ assigns₁ work₁ answer
+  pub two : Outcome n w s' fibres₀' assigns₀' work₀' fibres₁' assigns₁' work₁' answer'
+  pub long : length s' ≡ length s
+  pub same : Rearranged (circuitsOf s) (circuitsOf s')
+  pub rooms : (length fibres₀' ≡ length fibres₀) × (length assigns₀' ≡ length assigns₀) × (length work₀' ≡ length work₀)

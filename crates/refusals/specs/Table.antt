@@ -22,7 +22,7 @@ abbrev pub whenever : Bool → Option ℕ
 whenever true = some 0
 whenever false = none
 
--- the first of the first m records that passes, counted from 1
+-- the first of the first m records for which p holds, counted from 1
 unfoldable pub firstRecord : (ℕ → Bool) → ℕ → Option ℕ
 firstRecord p m = cond (ltb (seek p 0 m) m) (some (suc (seek p 0 m))) none
 

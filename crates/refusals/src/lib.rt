@@ -1,6 +1,6 @@
 // The tests, one function each: what is refused, with which number and place.
 ghost use mathlib.Core.Path.{_≡_};
-ghost use Prim.Native.Nat.{_+_, _*_, _/_, _≤_};
+ghost use Prim.Native.Nat.{_*_, _/_, _≤_};
 ghost use mathlib.Core.Bool.{not, _&&_};
 ghost use lib.ListN.{length};
 ghost use lib.Dec.{leb, ltb};
@@ -83,6 +83,7 @@ pub fn numbered(circuits: &[u8], m: usize) -> Test
     Test::Checked(m)
 }
 
+// A link, as a machine word.
 fn wide(x: u16) -> usize
     ensures { λ r. ⌜ r ≡ x ⌝ }
 {

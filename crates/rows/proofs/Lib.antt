@@ -10,5 +10,5 @@ pub mod StepLaws
 pub mod RowLoop
 pub mod RowLaws
 pub mod FillLaws
-pub mod FilledLaws
+pub mod SheetLength
 pub mod Pinned

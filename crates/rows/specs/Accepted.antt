@@ -1,4 +1,4 @@
--- What the tests leave. What a reader must believe.
+-- What the phases ask of a file. The tests leave this, and more. What a reader must believe.
 -- Assumes nothing.
 use Prim.Native.Nat.{ℕ, _*_, _≤_}
 use mathlib.Core.Path.{_≡_}
@@ -7,7 +7,7 @@ use lib.ListN.{length}
 use Rattle.records.specs.Records.{circuitsIn}
 use Rattle.method.specs.Line.{Lies}
 
--- the file s has passed the tests: m circuits, each on the line of n links, and w wavelengths
+-- m circuits, each on the line of n links, and w wavelengths; 80 is the most that a grid to come allows
 pub record Accepted (n w m : ℕ) (s : List ℕ) : Type 0 where
   pub line : n ≤ 512
   pub waves : (1 ≤ w) × (w ≤ 80)

@@ -5,7 +5,7 @@ ghost use Prim.Native.Nat.{_+_, _*_, _≤_};
 ghost use mathlib.Core.Path.{_≡_};
 ghost use lib.ListN.{length};
 ghost use Rattle.method.specs.Line.{Lies};
-ghost use Rattle.method.specs.Sheet.{chosen, row};
+ghost use Rattle.method.specs.Sheet.{chosen};
 ghost use Rattle.records.specs.Bytes.{cellsOf};
 ghost use Rattle.records.specs.Records.{recordAt, circuitOf, circuitsIn};
 ghost use Rattle.rows.specs.Area.{coloursIn, stateIn};

@@ -3,7 +3,7 @@ use crate::halves;
 use crate::needs;
 ghost use mathlib.Core.Path.{_≡_};
 ghost use mathlib.Core.List.{_++_};
-ghost use Prim.Native.Nat.{suc, _+_, _*_, _-_, _/_, _≤_, _<_};
+ghost use Prim.Native.Nat.{suc, _+_, _*_, _-_, _≤_, _<_};
 ghost use lib.ListN.{length, drop};
 ghost use Rattle.records.specs.Bytes.{cellsOf};
 ghost use Rattle.records.specs.Records.{circuitsIn, putRecord};
