@@ -7,14 +7,10 @@ use lib.ListN.{getD}
 use Rattle.basics.specs.Tools.{each}
 use Rattle.basics.proofs.Tables.{each-same, getD-each}
 use Rattle.records.specs.Records.{recordAt, circuitOf, circuitsIn}
-use Rattle.records.proofs.Files.{length-circuitsIn, circuitsIn-at}
-use Rattle.method.specs.Line.{nobody, circuit, Lies}
+use Rattle.records.proofs.Files.{length-circuitsIn}
+use Rattle.method.specs.Line.{circuit, Lies}
 use Rattle.strands.specs.Area.{rowsIn}
-
--- circuit j is what record j holds
-pub circuit-in : (m : ℕ) (s : List ℕ) (j : ℕ) → j < m → circuit (circuitsIn m s) j ≡ circuitOf (recordAt s j)
-unfolding circuit
-circuit-in m s j h = circuitsIn-at m s j nobody h
+use Rattle.rows.proofs.CircuitLaws.{circuit-in}
 
 -- the circuits one by one are the file
 pub each-circuit : (m : ℕ) (s : List ℕ) → each (circuit (circuitsIn m s)) 0 m ≡ circuitsIn m s
