@@ -179,21 +179,21 @@ any-hit p m j h t = on (any p m) (λ e. e) (λ e. clash (p j) t (any-false p m e
 pub any-none : (p : ℕ → Bool) (m : ℕ) → ((j : ℕ) → j < m → p j ≡ false) → any p m ≡ false
 any-none p m h = on (any p m) (λ e. let r = any-true p m e in clash (p (r .0)) (r .2) (h (r .0) (r .1))) (λ e. e)
 
--- place i does not pass: the search up to n goes on at i + 1
-pub seek-next : (p : ℕ → Bool) (i n : ℕ) → i ≤ n → p i ≡ false → seek p i (n + 1 - i) ≡ seek p (i + 1) (n + 1 - (i + 1))
+-- place i does not pass: the search before e goes on at i + 1
+pub seek-onward : (p : ℕ → Bool) (i e : ℕ) → i < e → p i ≡ false → seek p i (e - i) ≡ seek p (i + 1) (e - (i + 1))
 unfolding seek
-seek-next p i n h e =
-    let k : n + 1 - i ≡ suc (n + 1 - (i + 1)) = omega arith in
-    rw (k, e, add-one i)
+seek-onward p i e h q =
+    let k : e - i ≡ suc (e - (i + 1)) = omega arith in
+    rw (k, q, add-one i)
 
--- place i passes: it is found
-pub seek-found : (p : ℕ → Bool) (i n : ℕ) → i ≤ n → p i ≡ true → seek p i (n + 1 - i) ≡ i
+-- place i passes: it is found, before e
+pub seek-here : (p : ℕ → Bool) (i e : ℕ) → i < e → p i ≡ true → seek p i (e - i) ≡ i
 unfolding seek
-seek-found p i n h e =
-    let k : n + 1 - i ≡ suc (n + 1 - (i + 1)) = omega arith in
-    rw (k, e)
+seek-here p i e h q =
+    let k : e - i ≡ suc (e - (i + 1)) = omega arith in
+    rw (k, q)
 
--- no place is left
-pub seek-out : (p : ℕ → Bool) (i n : ℕ) → n < i → seek p i (n + 1 - i) ≡ i
+-- no place before e is left
+pub seek-over : (p : ℕ → Bool) (i e : ℕ) → e ≤ i → seek p i (e - i) ≡ i
 unfolding seek
-seek-out p i n h = let k : n + 1 - i ≡ 0 = omega arith in rw k
+seek-over p i e h = let k : e - i ≡ 0 = omega arith in rw k

@@ -1,13 +1,13 @@
 -- A turn and the end of the loops over links. Assumes nothing.
 use Prim.Native.Nat.{ℕ, zero, suc, _+_, _-_, _*_, _≤_, _<_, max}
-use mathlib.Core.Bool.{Bool, true, false}
+use mathlib.Core.Bool.{Bool, false}
 use mathlib.Core.Path.{_≡_, refl}
 use mathlib.Core.Logic.{_≢_}
 use mathlib.Core.List.{List}
 use native.Mathlib.Omega.{arith}
 use native.Mathlib.Numerals.{add-one}
 use lib.ListN.{length}
-use Rattle.basics.specs.Tools.{any, seek, sum}
+use Rattle.basics.specs.Tools.{any, sum}
 use Rattle.records.specs.Bytes.{cell, cellsOf}
 use Rattle.records.proofs.CellLaws.{cell-is}
 use Rattle.method.specs.Sheet.{at}
@@ -23,22 +23,6 @@ at-cell b (suc i) h l = let e : suc i - 1 ≡ i = omega arith in rw e (cell-is b
 pub at-zero : (cells : List ℕ) → at cells 0 ≡ 0
 unfolding at
 at-zero cells = refl
-
-module _ (p : ℕ → Bool) (n i : ℕ) where
-  -- the first link that passes is here
-  pub seek-here : p i ≡ true → i ≤ n → seek p i (suc n - i) ≡ i
-  unfolding seek
-  seek-here e h = let k : suc n - i ≡ suc (n - i) = omega arith in rw (k, e)
-
-  -- it is further on
-  pub seek-next : p i ≡ false → i ≤ n → seek p i (suc n - i) ≡ seek p (i + 1) (suc n - (i + 1))
-  unfolding seek
-  seek-next e h = let k : suc n - i ≡ suc (suc n - (i + 1)) = omega arith in let s : i + 1 ≡ suc i = omega arith in rw (k, e, s)
-
-  -- there is none: the line is at its end
-  pub seek-end : n < i → seek p i (suc n - i) ≡ i
-  unfolding seek
-  seek-end h = let k : suc n - i ≡ 0 = omega arith in rw k
 
 -- one more link of a sum
 pub sum-more : (f : ℕ → ℕ) (i : ℕ) → sum f (i + 1) ≡ f (i + 1) + sum f i

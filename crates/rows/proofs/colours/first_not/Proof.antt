@@ -6,7 +6,7 @@ use mathlib.Core.Bool.{not}
 use native.Mathlib.Omega.{arith}
 use borrow.Author.Tests.{eq-eqb, ne-eqb}
 use Rattle.basics.specs.Tools.{seek}
-use Rattle.basics.proofs.Searches.{seek-next, seek-found, seek-out}
+use Rattle.basics.proofs.Searches.{seek-onward, seek-here, seek-over}
 use Rattle.records.specs.Bytes.{cellsOf}
 use Rattle.rows.specs.Area.{coloursIn}
 use Rattle.rows.specs.Colours.{isNot}
@@ -31,7 +31,7 @@ returns c =
     let get = c .before .get in
     let a = start .args in
     let v = read-colour (a .n) (a .work .now) (l .i) (get .result) (omega arith) (omega arith) (omega arith) (get .ensures) in
-    sym (seek-found _ (l .i) (a .n) (omega arith) (ap not (ne-eqb _ _ (λ z. c .if1 .taken (v ∙ z))))) ∙ l .inv .2
+    sym (seek-here _ (l .i) (a .n + 1) (omega arith) (ap not (ne-eqb _ _ (λ z. c .if1 .taken (v ∙ z))))) ∙ l .inv .2
 
 loop-again : tie.Need-loop-again Inv-loop μ-loop
 unfolding isNot
@@ -41,13 +41,13 @@ loop-again c =
     let get = c .before .get in
     let a = start .args in
     let v = read-colour (a .n) (a .work .now) (l .i) (get .result) (omega arith) (omega arith) (omega arith) (get .ensures) in
-    (search needs, search needs, sym (seek-next _ (l .i) (a .n) (omega arith) (ap not (eq-eqb _ _ (sym v ∙ c .if1 .left)))) ∙ l .inv .2)
+    (search needs, search needs, sym (seek-onward _ (l .i) (a .n + 1) (omega arith) (ap not (eq-eqb _ _ (sym v ∙ c .if1 .left)))) ∙ l .inv .2)
 
 returns-2 : tie.Need-returns-2 Inv-loop μ-loop
 returns-2 c =
     let start = c .before .before .before in
     let l = c .before .loop in
-    sym (seek-out _ (l .i) (start .args .n) (omega arith)) ∙ l .inv .2
+    sym (seek-over _ (l .i) (start .args .n + 1) (omega arith)) ∙ l .inv .2
 
 pub first-not-spec : {M : Type 1} → statement M
 first-not-spec =

@@ -8,7 +8,7 @@ use Rattle.basics.specs.Tools.{seek}
 use Rattle.records.specs.Bytes.{cellsOf}
 use Rattle.method.specs.Sheet.{at}
 use Rattle.strands.specs.Layers.{reaches}
-use Rattle.strands.proofs.Turns.{seek-here, seek-next, seek-end}
+use Rattle.basics.proofs.Searches.{seek-here, seek-onward, seek-over}
 use Rattle.strands.proofs.needs.next_run.Statement.{statement}
 use Rattle.strands.proofs.needs.next_run.Tie as tie
 
@@ -25,16 +25,16 @@ returns : tie.Need-returns Inv-loop μ-loop
 unfolding reaches
 returns c = let l = c .before .before .before in let a = l .before .before .args in
     let r = c .before .need-at .ensures .0 in
-    sym (seek-here (reaches (at (cellsOf (a .work .now))) (a .t)) (a .n) (l .loop .x) (le-leb (a .t) (at (cellsOf (a .work .now)) (l .loop .x)) (omega arith)) (omega arith)) ∙ l .loop .inv .2
+    sym (seek-here (reaches (at (cellsOf (a .work .now))) (a .t)) (l .loop .x) (suc (a .n)) (omega arith) (le-leb (a .t) (at (cellsOf (a .work .now)) (l .loop .x)) (omega arith))) ∙ l .loop .inv .2
 
 loop-again : tie.Need-loop-again Inv-loop μ-loop
 unfolding reaches
 loop-again c = let l = c .before .before .before in let a = l .before .before .args in
-    (omega arith, omega arith, sym (seek-next (reaches (at (cellsOf (a .work .now))) (a .t)) (a .n) (l .loop .x) (lt-leb (a .t) (at (cellsOf (a .work .now)) (l .loop .x)) (omega arith)) (omega arith)) ∙ l .loop .inv .2)
+    (omega arith, omega arith, sym (seek-onward (reaches (at (cellsOf (a .work .now))) (a .t)) (l .loop .x) (suc (a .n)) (omega arith) (lt-leb (a .t) (at (cellsOf (a .work .now)) (l .loop .x)) (omega arith))) ∙ l .loop .inv .2)
 
 returns-2 : tie.Need-returns-2 Inv-loop μ-loop
 returns-2 c = let l = c .before in let a = l .before .before .args in
-    sym (seek-end (reaches (at (cellsOf (a .work .now))) (a .t)) (a .n) (l .loop .x) (omega arith)) ∙ l .loop .inv .2
+    sym (seek-over (reaches (at (cellsOf (a .work .now))) (a .t)) (l .loop .x) (suc (a .n)) (omega arith)) ∙ l .loop .inv .2
 
 pub next-run-spec : {M : Type 1} → statement M
 next-run-spec =

@@ -1,0 +1,122 @@
+-- What a line says, word by word. Assumes nothing.
+use Prim.Native.Nat.{ℕ, suc, _+_, _<_, _≤_}
+use mathlib.Core.List.{List}
+use mathlib.Core.Option.{Option, none, some}
+use mathlib.Core.Path.{_≡_, _∙_, sym, ap, refl}
+use native.Mathlib.Numerals.{add-one}
+use native.Mathlib.Omega.{arith}
+use borrow.Author.Tests.{le-leb, lt-leb}
+use Rattle.records.specs.declared.Circuit.{Circuit}
+use Rattle.entry_text.specs.declared.words.Numeral.{Numeral}
+use Rattle.entry_text.specs.declared.words.Numeral.the-variants.{Value, Nothing}
+use Rattle.entry_text.specs.declared.lines.Sizes.{Sizes}
+use Rattle.entry_text.specs.declared.lines.Sizes.the-variants.{Both, Neither}
+use Rattle.entry_text.specs.declared.lines.CircuitLine.{CircuitLine}
+use Rattle.entry_text.specs.declared.lines.CircuitLine.the-variants.{Says, Unclear}
+use Rattle.entry_text.specs.declared.lines.Opening.the-variants.{Header, Missing}
+use Rattle.entry_text.specs.Entries.{wordFrom, wordNumber, wordPast, headerIn, circuitIn, foundBy}
+use Rattle.entry_text.specs.Entries as text
+use Rattle.entry_text.specs.Told.{numeralOf, sizesOf, circuitLineOf, opening}
+
+-- no number was told
+pub none-told : (o : Option ℕ) (r : Numeral) → r ≡ numeralOf o → r ≡ Nothing → o ≡ none
+none-told none r p q = refl
+none-told (some v) r p q = let z : Value v ≡ Nothing = sym p ∙ q in let y : _≡_ {A = ℕ} 0 1 = cc in absurd (omega arith)
+
+-- this number was told
+pub some-told : (o : Option ℕ) (r : Numeral) (v : ℕ) → r ≡ numeralOf o → r ≡ Value v → o ≡ some v
+some-told none r v p q = let z : Nothing ≡ Value v = sym p ∙ q in let y : _≡_ {A = ℕ} 0 1 = cc in absurd (omega arith)
+some-told (some x) r v p q = let z : Value x ≡ Value v = sym p ∙ q in let y : x ≡ v = cc in ap some y
+
+-- the first word is no number
+pub header-first : (s : List ℕ) (i e : ℕ) → wordNumber s i e 65536 ≡ none → Neither ≡ sizesOf (headerIn s i e)
+unfolding headerIn
+header-first s i e a = rw a
+
+-- the second word is no number
+pub header-second : (s : List ℕ) (i e p n : ℕ) → p ≡ wordPast s i e → wordNumber s i e 65536 ≡ some n → wordNumber s p e 65536 ≡ none → Neither ≡ sizesOf (headerIn s i e)
+unfolding headerIn
+header-second s i e p n hp a b =
+    let b' : wordNumber s (wordPast s i e) e 65536 ≡ none = rw hp at b in
+    rw (a, b')
+
+-- there is a third word
+pub header-third : (s : List ℕ) (i e p q x n w : ℕ) → p ≡ wordPast s i e → q ≡ wordPast s p e → x ≡ wordFrom s q e → wordNumber s i e 65536 ≡ some n → wordNumber s p e 65536 ≡ some w → x < e → Neither ≡ sizesOf (headerIn s i e)
+unfolding headerIn
+header-third s i e p q x n w hp hq hx a b h =
+    let b' : wordNumber s (wordPast s i e) e 65536 ≡ some w = rw hp at b in
+    let x' : x ≡ wordFrom s (wordPast s (wordPast s i e) e) e = rw (hq, hp) at hx in
+    rw (a, b', ← x', lt-leb e x h)
+
+-- there are just two numbers
+pub header-both : (s : List ℕ) (i e p q x n w : ℕ) → p ≡ wordPast s i e → q ≡ wordPast s p e → x ≡ wordFrom s q e → wordNumber s i e 65536 ≡ some n → wordNumber s p e 65536 ≡ some w → e ≤ x → Both n w ≡ sizesOf (headerIn s i e)
+unfolding headerIn
+header-both s i e p q x n w hp hq hx a b h =
+    let b' : wordNumber s (wordPast s i e) e 65536 ≡ some w = rw hp at b in
+    let x' : x ≡ wordFrom s (wordPast s (wordPast s i e) e) e = rw (hq, hp) at hx in
+    rw (a, b', ← x', le-leb e x h)
+
+-- the first word is no number
+pub circuit-first : (s : List ℕ) (i e : ℕ) → wordNumber s i e 4294967296 ≡ none → Unclear ≡ circuitLineOf (circuitIn s i e)
+unfolding circuitIn
+circuit-first s i e a = rw a
+
+-- the second word is no number
+pub circuit-second : (s : List ℕ) (i e p n : ℕ) → p ≡ wordPast s i e → wordNumber s i e 4294967296 ≡ some n → wordNumber s p e 65536 ≡ none → Unclear ≡ circuitLineOf (circuitIn s i e)
+unfolding circuitIn
+circuit-second s i e p n hp a b =
+    let b' : wordNumber s (wordPast s i e) e 65536 ≡ none = rw hp at b in
+    rw (a, b')
+
+-- the third word is no number
+pub circuit-third : (s : List ℕ) (i e p q n f : ℕ) → p ≡ wordPast s i e → q ≡ wordPast s p e → wordNumber s i e 4294967296 ≡ some n → wordNumber s p e 65536 ≡ some f → wordNumber s q e 65536 ≡ none → Unclear ≡ circuitLineOf (circuitIn s i e)
+unfolding circuitIn
+circuit-third s i e p q n f hp hq a b d =
+    let b' : wordNumber s (wordPast s i e) e 65536 ≡ some f = rw hp at b in
+    let d' : wordNumber s (wordPast s (wordPast s i e) e) e 65536 ≡ none = rw (hq, hp) at d in
+    rw (a, b', d')
+
+-- there is a fourth word
+pub circuit-fourth : (s : List ℕ) (i e p q o x n f l : ℕ) → p ≡ wordPast s i e → q ≡ wordPast s p e → o ≡ wordPast s q e → x ≡ wordFrom s o e
+    → wordNumber s i e 4294967296 ≡ some n → wordNumber s p e 65536 ≡ some f → wordNumber s q e 65536 ≡ some l → x < e → Unclear ≡ circuitLineOf (circuitIn s i e)
+unfolding circuitIn
+circuit-fourth s i e p q o x n f l hp hq ho hx a b d h =
+    let b' : wordNumber s (wordPast s i e) e 65536 ≡ some f = rw hp at b in
+    let d' : wordNumber s (wordPast s (wordPast s i e) e) e 65536 ≡ some l = rw (hq, hp) at d in
+    let x' : x ≡ wordFrom s (wordPast s (wordPast s (wordPast s i e) e) e) e = rw (ho, hq, hp) at hx in
+    rw (a, b', d', ← x', lt-leb e x h)
+
+-- there are just three numbers
+pub circuit-says : (s : List ℕ) (i e p q o x n f l : ℕ) → p ≡ wordPast s i e → q ≡ wordPast s p e → o ≡ wordPast s q e → x ≡ wordFrom s o e
+    → wordNumber s i e 4294967296 ≡ some n → wordNumber s p e 65536 ≡ some f → wordNumber s q e 65536 ≡ some l → e ≤ x
+    → Says (record { number = n; first = f; last = l }) ≡ circuitLineOf (circuitIn s i e)
+unfolding circuitIn
+circuit-says s i e p q o x n f l hp hq ho hx a b d h =
+    let b' : wordNumber s (wordPast s i e) e 65536 ≡ some f = rw hp at b in
+    let d' : wordNumber s (wordPast s (wordPast s i e) e) e 65536 ≡ some l = rw (hq, hp) at d in
+    let x' : x ≡ wordFrom s (wordPast s (wordPast s (wordPast s i e) e) e) e = rw (ho, hq, hp) at hx in
+    rw (a, b', d', ← x', le-leb e x h)
+
+-- a line that is no header
+pub opened-none : (o : Option text.Header) (r : Sizes) (i l : ℕ) → r ≡ sizesOf o → r ≡ Neither → Missing l ≡ opening (foundBy i l o)
+opened-none none r i l p q = refl
+opened-none (some h) r i l p q = let z : Both (h .n) (h .w) ≡ Neither = sym p ∙ q in let y : _≡_ {A = ℕ} 0 1 = cc in absurd (omega arith)
+
+-- a line that is the header
+pub opened-some : (o : Option text.Header) (r : Sizes) (e l n w : ℕ) → r ≡ sizesOf o → r ≡ Both n w → Header n w (e + 1) (l + 1) ≡ opening (foundBy (suc e) l o)
+opened-some none r e l n w p q = let z : Neither ≡ Both n w = sym p ∙ q in let y : _≡_ {A = ℕ} 0 1 = cc in absurd (omega arith)
+opened-some (some h) r e l n w p q =
+    let z : Both (h .n) (h .w) ≡ Both n w = sym p ∙ q in
+    let a : h .n ≡ n = cc in
+    let b : h .w ≡ w = cc in
+    rw (add-one e, add-one l, a, b)
+
+-- a line that says no circuit
+pub no-circuit : (o : Option Circuit) (r : CircuitLine) → r ≡ circuitLineOf o → r ≡ Unclear → o ≡ none
+no-circuit none r p q = refl
+no-circuit (some c) r p q = let z : Says c ≡ Unclear = sym p ∙ q in let y : _≡_ {A = ℕ} 0 1 = cc in absurd (omega arith)
+
+-- a line that says this circuit
+pub this-circuit : (o : Option Circuit) (r : CircuitLine) (c : Circuit) → r ≡ circuitLineOf o → r ≡ Says c → o ≡ some c
+this-circuit none r c p q = let z : Unclear ≡ Says c = sym p ∙ q in let y : _≡_ {A = ℕ} 0 1 = cc in absurd (omega arith)
+this-circuit (some d) r c p q = let z : Says d ≡ Says c = sym p ∙ q in let y : d ≡ c = cc in ap some y
