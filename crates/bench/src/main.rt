@@ -1,0 +1,179 @@
+// Runs the planner on its limits and refusals and prints what was expected and what came.
+mod inputs;
+mod report;
+mod runs;
+
+use inputs::Faults;
+use records::Circuit;
+use report::Tally;
+use report::case;
+use report::planned;
+use report::refused;
+use runs::sized;
+
+// The ends of the allowed n, w and numbers of circuits.
+fn limits(t: Tally) -> Tally {
+    let t = case(
+        t,
+        b"case 9, 512 links",
+        planned(0, 0, 0),
+        runs::none(512, 1),
+    );
+    let t = case(t, b"case 9, 513 links", refused(3, 0), runs::none(513, 1));
+    let t = case(t, b"case 9, 0 links", refused(3, 0), runs::none(0, 1));
+    let t = case(t, b"case 9, w = 40", planned(0, 0, 0), runs::none(1, 40));
+    let t = case(t, b"case 9, w = 41", refused(4, 0), runs::none(1, 41));
+    let t = case(t, b"case 9, w = 0", refused(4, 0), runs::none(1, 0));
+    let t = case(
+        t,
+        b"case 9, 2048 circuits on 512 links, w = 40",
+        planned(104, 53248, 26624),
+        runs::many(512, 40, 2048, 512),
+    );
+    let t = case(
+        t,
+        b"case 9, 2048 circuits on 1 of 512 links, w = 1",
+        planned(4096, 4096, 2048),
+        runs::many(512, 1, 2048, 1),
+    );
+    case(
+        t,
+        b"case 9, 2049 circuits",
+        refused(2, 0),
+        runs::many(512, 40, 2049, 512),
+    )
+}
+
+// A circuit with the given ends.
+fn ends(first: u16, last: u16) -> Circuit {
+    Circuit {
+        number: 7,
+        first,
+        last,
+    }
+}
+
+// The ends of a circuit, on a line of 5 links.
+fn last_links(t: Tally) -> Tally {
+    let t = case(
+        t,
+        b"case 10, first = last = n",
+        planned(2, 2, 1),
+        runs::one(5, 1, ends(5, 5)),
+    );
+    let t = case(
+        t,
+        b"case 10, last = n + 1",
+        refused(6, 1),
+        runs::one(5, 1, ends(5, 6)),
+    );
+    let t = case(
+        t,
+        b"case 10, first = 0",
+        refused(6, 1),
+        runs::one(5, 1, ends(0, 1)),
+    );
+    case(
+        t,
+        b"case 10, first past last",
+        refused(6, 1),
+        runs::one(5, 1, ends(3, 2)),
+    )
+}
+
+// A circuit on link 1 with the given number.
+fn numbered(number: u32) -> Circuit {
+    Circuit {
+        number,
+        first: 1,
+        last: 1,
+    }
+}
+
+// The numbers of the circuits.
+fn numbers(t: Tally) -> Tally {
+    let t = case(
+        t,
+        b"case 11, zero number in record 2, bad end in record 1",
+        refused(5, 2),
+        runs::three(ends(1, 9), numbered(0), numbered(8)),
+    );
+    let t = case(
+        t,
+        b"case 12, numbers 4, 4, 4",
+        refused(7, 2),
+        runs::three(numbered(4), numbered(4), numbered(4)),
+    );
+    let t = case(
+        t,
+        b"case 12, numbers 4, 5, 4",
+        refused(7, 3),
+        runs::three(numbered(4), numbered(5), numbered(4)),
+    );
+    case(
+        t,
+        b"case 12, number 4294967295",
+        planned(2, 2, 1),
+        runs::one(1, 1, numbered(4294967295)),
+    )
+}
+
+// Whole records and too few or too many bytes.
+fn lengths(t: Tally) -> Tally {
+    let t = case(t, b"a file of 7 bytes", refused(1, 0), runs::bytes(7));
+    let t = case(t, b"a file of 8 bytes", planned(2, 2, 1), runs::bytes(8));
+    case(t, b"a file of 9 bytes", refused(1, 0), runs::bytes(9))
+}
+
+// Lent areas that hold exactly what one circuit on one link needs, and one byte less.
+fn rooms(t: Tally) -> Tally {
+    let t = case(
+        t,
+        b"room for 16, 8 and 8 bytes",
+        planned(2, 2, 1),
+        runs::lent(sized(16, 8, 8)),
+    );
+    let t = case(
+        t,
+        b"fibre list of 15 bytes",
+        refused(8, 0),
+        runs::lent(sized(15, 8, 8)),
+    );
+    let t = case(
+        t,
+        b"assignment list of 7 bytes",
+        refused(9, 0),
+        runs::lent(sized(16, 7, 8)),
+    );
+    case(
+        t,
+        b"work area of 7 bytes",
+        refused(10, 0),
+        runs::lent(sized(16, 8, 7)),
+    )
+}
+
+// Each fault of the table alone and with each later one: the lower number is given.
+fn precedence(t: Tally) -> Tally {
+    let mut tally = t;
+    for one in 1..11 {
+        for other in one..11 {
+            let f = Faults { one, other };
+            tally = report::pair(tally, f, runs::faulty(f));
+        }
+    }
+    tally
+}
+
+// Runs all cases.
+fn main() {
+    let t = limits(Tally {
+        cases: 0,
+        differ: 0,
+    });
+    let t = last_links(t);
+    let t = numbers(t);
+    let t = lengths(t);
+    let t = rooms(t);
+    report::close(precedence(t));
+}

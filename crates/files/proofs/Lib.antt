@@ -1,0 +1,2 @@
+-- The law that the proofs of the files share.
+pub mod Takes
