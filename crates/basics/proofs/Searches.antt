@@ -197,3 +197,8 @@ seek-here p i e h q =
 pub seek-over : (p : ℕ → Bool) (i e : ℕ) → e ≤ i → seek p i (e - i) ≡ i
 unfolding seek
 seek-over p i e h = let k : e - i ≡ 0 = omega arith in rw k
+
+-- place m does not pass: whether some place below m + 1 does is as below m
+pub any-past : (p : ℕ → Bool) (m : ℕ) → p m ≡ false → any p (m + 1) ≡ any p m
+unfolding any
+any-past p m e = rw (add-one m, e)

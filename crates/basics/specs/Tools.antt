@@ -4,6 +4,7 @@ use Prim.Native.Nat.{ℕ, zero, suc, _+_, max}
 use mathlib.Core.Bool.{Bool, true, false, _&&_, _||_, cond}
 use mathlib.Core.List.{List, [], _∷_}
 use mathlib.Core.Option.{Option, none, some}
+use lib.ListN.{take, drop}
 use lib.Dec.{ltb}
 
 -- how many j below m pass
@@ -30,6 +31,10 @@ seek p i (suc k) = cond (p i) i (seek p (suc i) k)
 unfoldable pub each : {A : Type 0} → (ℕ → A) → ℕ → ℕ → List A
 each f i zero = []
 each f i (suc k) = f i ∷ each f (suc i) k
+
+-- the k elements of a list from place a on
+abbrev pub part : {A : Type 0} → ℕ → ℕ → List A → List A
+part a k xs = take k (drop a xs)
 
 -- f 1 + .. + f n
 unfoldable pub sum : (ℕ → ℕ) → ℕ → ℕ

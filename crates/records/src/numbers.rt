@@ -34,6 +34,13 @@ pub fn read32(s: &[u8], k: usize) -> u32
     wide32(read16(s, k)) + 65536 * wide32(read16(s, k + 2))
 }
 
+// A 2-byte number, as a place or count.
+pub fn index(x: u16) -> usize
+    ensures { λ r. ⌜ (r ≡ x) × (r < 65536) ⌝ }
+{
+    x as usize
+}
+
 // The low two bytes of a number, as a number.
 pub fn low(x: u32) -> u16
     ensures { λ r. ⌜ r ≡ x % 65536 ⌝ }

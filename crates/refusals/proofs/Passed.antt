@@ -13,7 +13,7 @@ use Rattle.basics.proofs.Bools.{and-l, and-r, by-le, or-false-l, or-false-r}
 use Rattle.basics.proofs.Searches.{any-false}
 use Rattle.records.specs.Records.{recordAt, circuitOf}
 use Rattle.records.specs.declared.Circuit.{Circuit}
-use Rattle.refusals.specs.Table.{whenever, numberIn, badEnds, repeats, row1, row2, row3, row4, row5, row6, row7, row8, row9, row10}
+use Rattle.refusals.specs.Table.{whenever, numberIn, badEnds, hasNumber, repeats, row1, row2, row3, row4, row5, row6, row7, row8, row9, row10}
 use Rattle.refusals.proofs.First.{record-none}
 
 -- a row that applies as a whole and does not apply: its test failed
@@ -70,7 +70,7 @@ passed6 n s m e i h = good-ends n (circuitOf (recordAt s i)) (record-none (λ i.
 -- a record that does not repeat has another number than each before it
 pub not-before : (s : List ℕ) (j : ℕ) → repeats s j ≡ false → (i : ℕ) → i < j → numberIn s i ≢ numberIn s j
 unfolding repeats
-not-before s j e i h = eqb-false (numberIn s i) (numberIn s j) (any-false (λ d. eqb (numberIn s d) (numberIn s j)) j e i h)
+not-before s j e i h = eqb-false (numberIn s i) (numberIn s j) (any-false (hasNumber s (numberIn s j)) j e i h)
 
 -- 7: no circuit number stands twice
 pub passed7 : (s : List ℕ) (m : ℕ) → (row7 s m) .place ≡ none → (i j : ℕ) → i < m → j < m → numberIn s i ≡ numberIn s j → i ≡ j

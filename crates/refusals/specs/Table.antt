@@ -34,9 +34,13 @@ numberIn s i = (circuitOf (recordAt s i)) .number
 unfoldable pub badEnds : ℕ → Circuit → Bool
 badEnds n c = eqb (c .first) 0 || ltb (c .last) (c .first) || ltb n (c .last)
 
+-- record i has the number x
+abbrev pub hasNumber : List ℕ → ℕ → ℕ → Bool
+hasNumber s x i = eqb (numberIn s i) x
+
 -- record i repeats the number of an earlier one
 unfoldable pub repeats : List ℕ → ℕ → Bool
-repeats s i = any (λ d. eqb (numberIn s d) (numberIn s i)) i
+repeats s i = any (hasNumber s (numberIn s i)) i
 
 -- 1: circuit bytes not a multiple of 8
 abbrev pub row1 : List ℕ → Row

@@ -1,10 +1,11 @@
 // The tests, one function each: what is refused, with which number and place.
 ghost use mathlib.Core.Path.{_≡_};
-ghost use Prim.Native.Nat.{_*_, _/_, _≤_};
+ghost use Prim.Native.Nat.{_+_, _*_, _/_, _≤_};
 ghost use mathlib.Core.Bool.{not, _&&_};
 ghost use lib.ListN.{length};
 ghost use lib.Dec.{leb, ltb};
-ghost use Rattle.refusals.specs.Table.{whenever, badEnds, tested, row1, row2, row3, row4, row5, row6, row7, row8, row9, row10};
+ghost use Rattle.basics.specs.Tools.{any};
+ghost use Rattle.refusals.specs.Table.{whenever, badEnds, hasNumber, tested, row1, row2, row3, row4, row5, row6, row7, row8, row9, row10};
 
 // What a test answers: passed, with a number that it found, or refused, with number and place.
 pub enum Test {
@@ -83,13 +84,6 @@ pub fn numbered(circuits: &[u8], m: usize) -> Test
     Test::Checked(m)
 }
 
-// A link, as a machine word.
-fn wide(x: u16) -> usize
-    ensures { λ r. ⌜ r ≡ x ⌝ }
-{
-    x as usize
-}
-
 // Whether a circuit does not lie on a line of n links.
 fn bad_ends(c: records::Circuit, n: usize) -> bool
     ensures { λ r. ⌜ r ≡ badEnds n c ⌝ }
@@ -100,7 +94,7 @@ fn bad_ends(c: records::Circuit, n: usize) -> bool
     if c.last < c.first {
         return true;
     }
-    n < wide(c.last)
+    n < records::numbers::index(c.last)
 }
 
 // 6: every circuit lies on the line of n links.
@@ -120,21 +114,53 @@ pub fn on_line(circuits: &[u8], m: usize, n: usize) -> Test
     Test::Checked(m)
 }
 
-// 7: no circuit number stands twice. Every pair of records, until one repeats.
+// Whether one of the 32 records from record i on has the number x. No exit inside the loop, so that several are compared at once.
+fn like_of_32(circuits: &[u8], i: usize, x: u32) -> bool
+    requires { ⌜ 8 * (i + 32) ≤ length (now circuits) ⌝ }
+    ensures { λ r. ⌜ r ≡ any (λ k. hasNumber (now (circuits .entry)) x (i + k)) 32 ⌝ }
+{
+    let mut hit = false;
+    let mut k = 0;
+    while k < 32 {
+        let c = records::circuit_at(circuits, i + k);
+        if c.number == x {
+            hit = true;
+        }
+        k += 1;
+    }
+    hit
+}
+
+// 7: no circuit number stands twice. Each record beside those before it, until one repeats.
 pub fn unlike(circuits: &[u8], m: usize) -> Test
     requires { ⌜ (8 * m ≤ length (now circuits)) × (m ≤ 2048) ⌝ }
     ensures { λ r. ⌜ r ≡ tested (row7 (now (circuits .entry)) m) m ⌝ }
 {
     let mut place: usize = 0;
+    // The largest number so far: a larger one is like none before it.
+    let mut most: u32 = 0;
     'pairs: for j in 0..m {
         let c = records::circuit_at(circuits, j);
         let x = c.number;
-        for i in 0..j {
+        let mut i = 0;
+        if most < x {
+            most = x;
+            i = j;
+        }
+        while i + 32 <= j {
+            if like_of_32(circuits, i, x) {
+                place = j + 1;
+                break 'pairs;
+            }
+            i += 32;
+        }
+        while i < j {
             let d = records::circuit_at(circuits, i);
             if d.number == x {
                 place = j + 1;
                 break 'pairs;
             }
+            i += 1;
         }
     }
     if place == 0 {

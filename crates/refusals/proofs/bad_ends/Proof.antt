@@ -15,7 +15,7 @@ returns-2 c = rw (ne-eqb _ _ (c .before .before .if1 .left), lt-ltb _ _ (c .if2 
 
 returns-3 : tie.Need-returns-3
 unfolding badEnds
-returns-3 c = rw (ne-eqb _ _ (c .before .before .before .if1 .left), le-ltb _ _ (c .before .if2 .left), c .wide .ensures)
+returns-3 c = rw (ne-eqb _ _ (c .before .before .before .if1 .left), le-ltb _ _ (c .before .if2 .left), c .index .ensures .0)
 
 pub bad-ends-spec : {M : Type 1} → statement M
 bad-ends-spec = tie.close (tie.spec returns returns-2 (λ c κs. search needs) returns-3)
