@@ -76,3 +76,11 @@ never false f = refl
 pub and-false : (b : Bool) → b && false ≡ false
 and-false true = refl
 and-false false = refl
+
+-- the first holds, so the second tells whether both do
+pub and-then : (a b r : Bool) → a ≡ true → r ≡ b → r ≡ a && b
+and-then a b r p q = cc
+
+-- the first fails, and tells
+pub and-not : (a b r : Bool) → a ≡ false → r ≡ a → r ≡ a && b
+and-not a b r p q = cc

@@ -6,6 +6,7 @@ use mathlib.Core.Bool.{Bool, _&&_, cond, false, not, true}
 use mathlib.Core.Logic.{_≢_}
 use mathlib.Core.Path.{_∙_, _≡_, ap, ap₂, refl}
 use native.Mathlib.Nat.{add-suc, add-zero, div-eq-of-lt, mul-add-div-right, suc-mul, zero-mul}
+use native.Mathlib.Numerals.{add-one}
 use native.Mathlib.Omega.{arith}
 use Rattle.basics.specs.Tools.{count, top}
 use Rattle.basics.proofs.Bools.{and-l, and-of, by-eq, by-le, on}
@@ -44,6 +45,11 @@ unfolding count
 count-some p zero a l e = absurd (omega arith)
 count-some p (suc m) a l e =
     by-eq a m (λ v. let e' : p m ≡ true = rw v at e in rw e' (omega arith)) (λ v. omega (arith, count-some p m a (omega arith) e))
+
+-- place m is counted too: h is the count before it, t whether it passes, x its share
+pub count-turn : (p : ℕ → Bool) (m h x : ℕ) (t : Bool) → h ≡ count p m → x ≡ cond t 1 0 → t ≡ p m → h + x ≡ count p (m + 1)
+unfolding count
+count-turn p m h x t a b e = rw (add-one m, ← e) (omega arith)
 
 -- at most all pass
 pub count-below : (p : ℕ → Bool) (m : ℕ) → count p m ≤ m

@@ -1,15 +1,17 @@
 -- What `every`, `any`, `seek` and `lowest` find. Assumes nothing.
 use Prim.Native.Nat.{_+_, _-_, _<_, _≤_, suc, zero, ℕ}
-use borrow.Author.Tests.{eqb-false, eqb-true, ltb-false, ltb-true}
+use borrow.Author.Tests.{eq-eqb, eqb-false, eqb-true, ltb-false, ltb-true, ne-eqb}
 use lib.Dec.{eqb, ltb}
-use mathlib.Core.Bool.{Bool, cond, false, true}
+use mathlib.Core.Bool.{Bool, cond, false, not, true}
 use mathlib.Core.Logic.{_≢_}
 use mathlib.Core.Option.{Option, none, some}
-use mathlib.Core.Path.{_≡_, ap, refl}
+use mathlib.Core.Path.{_∙_, _≡_, ap, refl, sym}
+use native.Mathlib.Nat.{add-zero}
 use native.Mathlib.Numerals.{add-one}
 use native.Mathlib.Omega.{arith}
-use Rattle.basics.specs.Tools.{any, better, every, lowest, seek}
+use Rattle.basics.specs.Tools.{any, better, count, every, lowest, seek}
 use Rattle.basics.proofs.Bools.{and-l, and-of, and-r, by-eq, by-le, clash, on, or-false-l, or-false-r}
+use Rattle.basics.proofs.Counts.{count-none, count-some}
 
 -- each passes, so the one at x does
 pub every-at : (p : ℕ → Bool) (i k : ℕ) → every p i k ≡ true → (x : ℕ) → i ≤ x → x < i + k → p x ≡ true
@@ -175,6 +177,13 @@ seek-none p i k h =
 pub any-hit : (p : ℕ → Bool) (m j : ℕ) → j < m → p j ≡ true → any p m ≡ true
 any-hit p m j h t = on (any p m) (λ e. e) (λ e. clash (p j) t (any-false p m e j h))
 
+-- some passes where the count of those that do is not zero
+pub any-counted : (p : ℕ → Bool) (m : ℕ) → any p m ≡ not (eqb (count p m) 0)
+any-counted p m =
+    on (any p m)
+    (λ e. let r = any-true p m e in e ∙ ap not (sym (ne-eqb (count p m) 0 (λ z. omega (arith, count-some p m (r .0) (r .1) (r .2), z)))))
+    (λ e. e ∙ ap not (sym (eq-eqb (count p m) 0 (count-none p m (any-false p m e)))))
+
 -- none of them passes, so none does
 pub any-none : (p : ℕ → Bool) (m : ℕ) → ((j : ℕ) → j < m → p j ≡ false) → any p m ≡ false
 any-none p m h = on (any p m) (λ e. let r = any-true p m e in clash (p (r .0)) (r .2) (h (r .0) (r .1))) (λ e. e)
@@ -185,6 +194,14 @@ unfolding seek
 seek-onward p i e h q =
     let k : e - i ≡ suc (e - (i + 1)) = omega arith in
     rw (k, q, add-one i)
+
+-- none of the k places from i on passes: the search before e goes on at i + k
+pub seek-skip : (p : ℕ → Bool) (i k e : ℕ) → i + k ≤ e → any (λ x. p (i + x)) k ≡ false → seek p i (e - i) ≡ seek p (i + k) (e - (i + k))
+unfolding any
+seek-skip p i zero e h q = rw (add-zero i)
+seek-skip p i (suc k) e h q =
+    let t : i + suc k ≡ i + k + 1 = omega arith in
+    rw t (seek-skip p i k e (omega arith) (or-false-r (p (i + k)) _ q) ∙ seek-onward p (i + k) e (omega arith) (or-false-l (p (i + k)) _ q))
 
 -- place i passes: it is found, before e
 pub seek-here : (p : ℕ → Bool) (i e : ℕ) → i < e → p i ≡ true → seek p i (e - i) ≡ i

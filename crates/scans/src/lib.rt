@@ -1,0 +1,102 @@
+// Searches in columns of 2-byte cells. A chunk is looked at as a whole, with no exit inside, so that many cells are compared at once.
+ghost use mathlib.Core.Path.{_≡_};
+ghost use mathlib.Core.Bool.{cond};
+ghost use Prim.Native.Nat.{_+_, _-_, _*_, _≤_};
+ghost use lib.ListN.{length};
+ghost use Rattle.basics.specs.Tools.{any, seek};
+ghost use Rattle.records.specs.Bytes.{cellsOf};
+ghost use Rattle.scans.specs.Scans.{within, cellWithin, bothWithin};
+
+// The numbers from `low` to `high`.
+pub struct Bounds {
+    pub low: u16,
+    pub high: u16,
+}
+
+// Whether one of the 16 cells from cell i on lies within the bounds.
+fn any_of_16(cells: &[u8], i: usize, b: Bounds) -> bool
+    requires { ⌜ (2 * (i + 16) ≤ length (now cells)) × (i ≤ 65535) ⌝ }
+    ensures { λ r. ⌜ r ≡ any (λ k. cellWithin b (cellsOf (now (cells .entry))) (i + k)) 16 ⌝ }
+{
+    let mut hit = false;
+    let mut k = 0;
+    while k < 16 {
+        let x = records::cells::get(cells, i + k);
+        if b.low <= x && x <= b.high {
+            hit = true;
+        }
+        k += 1;
+    }
+    hit
+}
+
+// The first cell from cell `from` to before cell `to` that lies within the bounds, or `to`.
+pub fn first_within(cells: &[u8], from: usize, to: usize, b: Bounds) -> usize
+    requires { ⌜ (2 * to ≤ length (now cells)) × (from ≤ to) × (to ≤ 65535) ⌝ }
+    ensures { λ r. ⌜ r ≡ seek (cellWithin b (cellsOf (now (cells .entry)))) from (to - from) ⌝ }
+{
+    let mut i = from;
+    while i + 16 <= to && !any_of_16(cells, i, b) {
+        i += 16;
+    }
+    while i < to {
+        let x = records::cells::get(cells, i);
+        if b.low <= x && x <= b.high {
+            return i;
+        }
+        i += 1;
+    }
+    to
+}
+
+// Whether a number lies within the bounds, by one comparison of wrapping differences.
+fn inside(x: u16, b: Bounds) -> bool
+    requires { ⌜ b .low ≤ b .high ⌝ }
+    ensures { λ r. ⌜ r ≡ within b x ⌝ }
+{
+    std::num::wrapping_sub_u16(x, b.low) <= b.high - b.low
+}
+
+// 1 for true, 0 for false.
+fn one_if(t: bool) -> u16
+    ensures { λ r. ⌜ (r ≡ cond t 1 0) × (r ≤ 1) ⌝ }
+{
+    if t { 1 } else { 0 }
+}
+
+// Whether, of the 32 pairs of cells from place p on, one has its cell of the first column within a and that of the second within b. The hits are counted, since
+// a count is what the machine adds up in many places at once.
+fn any_of_32(firsts: &[u8], lasts: &[u8], p: usize, a: Bounds, b: Bounds) -> bool
+    requires { ⌜ (2 * (p + 32) ≤ length (now firsts)) × (2 * (p + 32) ≤ length (now lasts)) × (p ≤ 65535) × (a .low ≤ a .high) × (b .low ≤ b .high) ⌝ }
+    ensures { λ r. ⌜ r ≡ any (λ k. bothWithin a b (cellsOf (now (firsts .entry))) (cellsOf (now (lasts .entry))) (p + k)) 32 ⌝ }
+{
+    let mut hits: u16 = 0;
+    let mut k = 0;
+    while k < 32 {
+        let x = records::cells::get(firsts, p + k);
+        let y = records::cells::get(lasts, p + k);
+        hits = hits + one_if(inside(x, a) && inside(y, b));
+        k += 1;
+    }
+    hits != 0
+}
+
+// The first place from `from` to before `to` whose cell of the first column lies within a and that of the second within b, or `to`.
+pub fn first_fit(firsts: &[u8], lasts: &[u8], from: usize, to: usize, a: Bounds, b: Bounds) -> usize
+    requires { ⌜ (2 * to ≤ length (now firsts)) × (2 * to ≤ length (now lasts)) × (from ≤ to) × (to ≤ 65535) × (a .low ≤ a .high) × (b .low ≤ b .high) ⌝ }
+    ensures { λ r. ⌜ r ≡ seek (bothWithin a b (cellsOf (now (firsts .entry))) (cellsOf (now (lasts .entry)))) from (to - from) ⌝ }
+{
+    let mut p = from;
+    while p + 32 <= to && !any_of_32(firsts, lasts, p, a, b) {
+        p += 32;
+    }
+    while p < to {
+        let x = records::cells::get(firsts, p);
+        let y = records::cells::get(lasts, p);
+        if inside(x, a) && inside(y, b) {
+            return p;
+        }
+        p += 1;
+    }
+    to
+}
