@@ -111,6 +111,31 @@ blocks r w (suc F) =
     rw (suc-mul F w, count-split (λ x. r (x / w)) (F * w) w, count-all (λ x. r ((F * w + x) / w)) (r F) w (λ x h. ap r (block F w x h)), blocks r w F)
     (on (r F) (λ e. rw e (omega arith)) (λ e. rw e (omega arith)))
 
+-- no fewer pass below a later place
+pub count-mono : (p : ℕ → Bool) (a b : ℕ) → a ≤ b → count p a ≤ count p b
+count-mono p a b h =
+    let e : b ≡ a + (b - a) = omega arith in
+    let s : count p b ≡ count p a + count (λ x. p (a + x)) (b - a) = ap (count p) e ∙ count-split p a (b - a) in
+    omega arith
+
+-- and more do, if place a passes
+pub count-rank : (p : ℕ → Bool) (a b : ℕ) → a < b → p a ≡ true → count p a < count p b
+unfolding count
+count-rank p a b h t =
+    let s : count p (suc a) ≡ 1 + count p a = rw t in
+    omega (arith, count-mono p (suc a) b (omega arith))
+
+-- one that passes has q before it
+pub count-nth : (p : ℕ → Bool) (m q : ℕ) → q < count p m → (a : ℕ) × (a < m) × (p a ≡ true) × (count p a ≡ q)
+unfolding count
+count-nth p zero q h = absurd (omega arith)
+count-nth p (suc m) q h =
+    by-le (suc q) (count p m)
+    (λ l. let r = count-nth p m q (omega arith) in let r₁ = r .1 in (r .0, omega arith, r .2, r .3))
+    (λ l. on (p m)
+    (λ e. let h' : q < 1 + count p m = rw e at h in (m, omega arith, e, omega arith))
+    (λ e. let h' : q < 0 + count p m = rw e at h in absurd (omega arith)))
+
 -- the first, and then the others
 pub count-shift : (p : ℕ → Bool) (m : ℕ) → count p (suc m) ≡ cond (p 0) 1 0 + count (λ x. p (suc x)) m
 unfolding count

@@ -219,3 +219,9 @@ seek-over p i e h = let k : e - i ≡ 0 = omega arith in rw k
 pub any-past : (p : ℕ → Bool) (m : ℕ) → p m ≡ false → any p (m + 1) ≡ any p m
 unfolding any
 any-past p m e = rw (add-one m, e)
+
+-- two tests that agree on the places searched find the same
+pub seek-same : (p q : ℕ → Bool) (i k : ℕ) → ((x : ℕ) → i ≤ x → x < i + k → p x ≡ q x) → seek p i k ≡ seek q i k
+unfolding seek
+seek-same p q i zero h = refl
+seek-same p q i (suc k) h = rw (h i (omega arith) (omega arith), seek-same p q (suc i) k (λ x a b. h x (omega arith) (omega arith)))

@@ -1,12 +1,12 @@
 -- Lists by their elements. Assumes nothing.
 use Prim.Native.Nat.{_+_, _<_, _≤_, suc, zero, ℕ}
-use lib.ListN.{getD, length, replicate}
-use lib.Seq.{ext-getD}
+use lib.ListN.{drop, getD, length, replicate}
+use lib.Seq.{ext-getD, getD-drop, getD-take}
 use mathlib.Core.List.{List, _++_, _∷_}
 use mathlib.Core.Path.{_∙_, _≡_, ap, ap₂, refl, sym}
 use native.Mathlib.Nat.{suc-add, zero-add}
 use native.Mathlib.Omega.{arith}
-use Rattle.basics.specs.Tools.{each}
+use Rattle.basics.specs.Tools.{each, part}
 
 -- a table of k entries has length k
 pub length-each : {A : Type 0} (f : ℕ → A) (s k : ℕ) → length (each f s k) ≡ k
@@ -54,3 +54,7 @@ zeros-add (suc a) b = rw suc-add (ap (λ (l : List ℕ). 0 ∷ l) (zeros-add a b
 -- a table, from 0 on, that agrees with a list at each of its places is the list
 pub table-is : {A : Type 0} (d : A) (f : ℕ → A) (xs : List A) → ((i : ℕ) → i < length xs → f i ≡ getD xs i d) → each f 0 (length xs) ≡ xs
 table-is d f xs h = sym (is-each f 0 (length xs) d xs refl (λ i l. let z : i ≡ 0 + i = omega arith in sym (h i l) ∙ ap f z))
+
+-- element i of the part from place a on is element a + i of the list
+pub getD-part : {A : Type 0} (a k : ℕ) (xs : List A) (i : ℕ) (d : A) → i < k → getD (part a k xs) i d ≡ getD xs (a + i) d
+getD-part a k xs i d h = getD-take k (drop a xs) i d h ∙ getD-drop a xs i d

@@ -1,3 +1,4 @@
+pub mod Circuits
 pub mod Links
 pub mod Colours
 pub mod Steps

@@ -51,3 +51,11 @@ take-bytes zero b h i = omega arith
 take-bytes (suc n) [] h i = omega arith
 take-bytes (suc n) (x ∷ b) h zero = h 0
 take-bytes (suc n) (x ∷ b) h (suc i) = take-bytes n b (λ j. h (suc j)) i
+
+-- cells of bytes fit two bytes
+pub cells-fit : (b : List ℕ) → ((i : ℕ) → getD b i 0 < 256) → (k : ℕ) → getD (cellsOf b) k 0 < 65536
+unfolding cellsOf
+cells-fit [] h k = omega arith
+cells-fit (x ∷ []) h k = omega arith
+cells-fit (x ∷ y ∷ t) h zero = omega (arith, h 0, h 1)
+cells-fit (x ∷ y ∷ t) h (suc k) = cells-fit t (λ i. h (suc (suc i))) k

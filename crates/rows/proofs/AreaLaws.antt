@@ -4,7 +4,8 @@ use mathlib.Core.Path.{_≡_, ap, _∙_, sym}
 use mathlib.Core.List.{List}
 use native.Mathlib.Omega.{arith}
 use lib.ListN.{length, getD, take, drop, length-drop}
-use lib.Seq.{getD-take, getD-drop, length-take-le}
+use lib.Seq.{length-take-le}
+use Rattle.basics.proofs.Tables.{getD-part}
 use Rattle.method.specs.Sheet.{at}
 use Rattle.records.specs.Bytes.{cell, cellsOf}
 use Rattle.records.proofs.CellLaws.{cell-is}
@@ -16,12 +17,12 @@ pub colour-at : (n : ℕ) (C : List ℕ) (x : ℕ) → 1 ≤ x → x ≤ n → g
 unfolding coloursIn
 colour-at n C x l h =
     let e : n + x - 1 ≡ n + (x - 1) = omega arith in
-    ap (λ (k : ℕ). getD C k 0) e ∙ sym (getD-take n (drop n C) (x - 1) 0 (omega arith) ∙ getD-drop n C (x - 1) 0) ∙ at-get (take n (drop n C)) x l
+    ap (λ (k : ℕ). getD C k 0) e ∙ sym (getD-part n n C (x - 1) 0 (omega arith)) ∙ at-get (take n (drop n C)) x l
 
 -- the row of circuit j is cell 2 n + j
 pub row-at : (n m : ℕ) (C : List ℕ) (j : ℕ) → j < m → getD C (2 * n + j) 0 ≡ getD (rowsIn n m C) j 0
 unfolding rowsIn
-row-at n m C j h = sym (getD-take m (drop (2 * n) C) j 0 h ∙ getD-drop (2 * n) C j 0)
+row-at n m C j h = sym (getD-part (2 * n) m C j 0 h)
 
 -- n links have n colours
 pub length-colours : (n : ℕ) (C : List ℕ) → 2 * n ≤ length C → length (coloursIn n C) ≡ n

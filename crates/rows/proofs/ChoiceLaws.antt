@@ -22,7 +22,8 @@ use Rattle.rows.specs.Choice.{fitsRun, betterOf, optionOf, pick, against
 use Rattle.rows.specs.declared.choice.Best.{Best}
 use Rattle.rows.specs.declared.choice.Best.the-variants.{Nobody, At}
 use Rattle.rows.specs.declared.colours.Run.{Run}
-use Rattle.rows.proofs.CircuitLaws.{circuit-in, lies-at}
+use Rattle.method.proofs.Circuits.{circuit-in}
+use Rattle.rows.proofs.CircuitLaws.{lies-at}
 use Rattle.rows.proofs.RunLaws.{fits-is}
 
 -- ONE CIRCUIT MORE. It is placed already

@@ -1,17 +1,13 @@
--- The circuits of the file: circuit j of the list is the one that record j holds. Assumes nothing.
+-- The circuits of the file lie on the line, each by its record. Assumes nothing.
 use Prim.Native.Nat.{ℕ, _<_, _≤_}
-use mathlib.Core.Path.{_≡_, ap}
+use mathlib.Core.Path.{ap}
 use mathlib.Core.List.{List}
 use native.Mathlib.Omega.{arith}
-use Rattle.method.specs.Line.{circuit, nobody, Lies}
+use Rattle.method.specs.Line.{circuit, Lies}
+use Rattle.method.proofs.Circuits.{circuit-in}
 use Rattle.records.specs.Records.{recordAt, circuitOf, circuitsIn}
 use Rattle.records.specs.declared.Circuit.{Circuit}
-use Rattle.records.proofs.Files.{length-circuitsIn, circuitsIn-at}
-
--- circuit j, by its record
-pub circuit-in : (m : ℕ) (s : List ℕ) (j : ℕ) → j < m → circuit (circuitsIn m s) j ≡ circuitOf (recordAt s j)
-unfolding circuit
-circuit-in m s j h = circuitsIn-at m s j nobody h
+use Rattle.records.proofs.Files.{length-circuitsIn}
 
 -- a circuit [a, b] lies on the line of n links
 pub record OnLine (n a b : ℕ) : Type 0 where

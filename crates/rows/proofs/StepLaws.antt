@@ -22,7 +22,7 @@ use Rattle.records.proofs.Files.{length-circuitsIn}
 use Rattle.rows.specs.Area.{coloursIn, rowsIn, stateIn, recoloured, Holds}
 use Rattle.rows.specs.Colours.{isColour, Around, between, painted}
 use Rattle.rows.specs.declared.colours.Run.{Run}
-use Rattle.rows.proofs.CircuitLaws.{circuit-in}
+use Rattle.method.proofs.Circuits.{circuit-in}
 use Rattle.rows.proofs.HoldLaws.{holds-as, holds-then, enter-row}
 
 -- the first open link, as the loop finds it

@@ -10,7 +10,7 @@ use Rattle.records.specs.Records.{recordAt, circuitOf, circuitsIn}
 use Rattle.records.proofs.Files.{length-circuitsIn}
 use Rattle.method.specs.Line.{circuit, Lies}
 use Rattle.strands.specs.Area.{rowsIn}
-use Rattle.rows.proofs.CircuitLaws.{circuit-in}
+use Rattle.method.proofs.Circuits.{circuit-in}
 
 -- the circuits one by one are the file
 pub each-circuit : (m : ℕ) (s : List ℕ) → each (circuit (circuitsIn m s)) 0 m ≡ circuitsIn m s

@@ -5,7 +5,7 @@ use borrow.Author.Needs.{needs}
 use Rattle.records.specs.Records.{circuitsIn}
 use Rattle.method.specs.Line.{circuit}
 use Rattle.strands.proofs.Places.{row-pos, layer-top, first-line, pair-counts, fibre-counts, fibre-few, wavelength-low, wavelength-counts}
-use Rattle.rows.proofs.CircuitLaws.{circuit-in}
+use Rattle.method.proofs.Circuits.{circuit-in}
 use Rattle.strands.proofs.assigns.place_of.Statement.{statement}
 use Rattle.strands.proofs.assigns.place_of.Tie as tie
 

@@ -5,7 +5,7 @@ use borrow.Author.Needs.{needs}
 use Rattle.records.specs.Records.{assignmentBytes, circuitsIn, putRecord}
 use Rattle.method.specs.Line.{circuit}
 use Rattle.strands.specs.Lists.{assignmentRecord}
-use Rattle.rows.proofs.CircuitLaws.{circuit-in}
+use Rattle.method.proofs.Circuits.{circuit-in}
 use Rattle.strands.proofs.assigns.write_assignment.Statement.{statement}
 use Rattle.strands.proofs.assigns.write_assignment.Tie as tie
 

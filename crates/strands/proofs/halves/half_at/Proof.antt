@@ -15,7 +15,7 @@ use Rattle.records.specs.Records.{circuitsIn}
 use Rattle.records.proofs.CellLaws.{cellsOf-set}
 use Rattle.method.specs.Line.{circuit}
 use Rattle.strands.specs.Halves.{meets, halfIn, halfAt}
-use Rattle.rows.proofs.CircuitLaws.{circuit-in}
+use Rattle.method.proofs.Circuits.{circuit-in}
 use Rattle.strands.proofs.halves.half_at.Statement.{statement}
 use Rattle.strands.proofs.halves.half_at.Tie as tie
 

@@ -11,7 +11,7 @@ use Rattle.records.specs.Bytes.{cellsOf}
 use Rattle.records.specs.Records.{circuitsIn}
 use Rattle.method.specs.Line.{circuit}
 use Rattle.strands.specs.Halves.{meets}
-use Rattle.rows.proofs.CircuitLaws.{circuit-in}
+use Rattle.method.proofs.Circuits.{circuit-in}
 use Rattle.strands.proofs.halves.met.Statement.{statement}
 use Rattle.strands.proofs.halves.met.Tie as tie
 
