@@ -2,7 +2,7 @@
 use Prim.Native.Nat.{_<_, _≤_, ℕ}
 use borrow.Author.Tests.{eqb-false, eqb-true, leb-false, leb-true}
 use lib.Dec.{eqb, leb}
-use mathlib.Core.Bool.{Bool, _&&_, _||_, false, true}
+use mathlib.Core.Bool.{Bool, _&&_, _||_, cond, false, not, true}
 use mathlib.Core.Logic.{_≢_, _⊎_, inl, inr}
 use mathlib.Core.Path.{_≡_, refl}
 use native.Mathlib.Omega.{arith}
@@ -84,3 +84,8 @@ and-then a b r p q = cc
 -- the first fails, and tells
 pub and-not : (a b r : Bool) → a ≡ false → r ≡ a → r ≡ a && b
 and-not a b r p q = cc
+
+-- what fails chooses the other
+pub cond-not : {A : Type 0} (b : Bool) (x y : A) → cond (not b) x y ≡ cond b y x
+cond-not true x y = refl
+cond-not false x y = refl

@@ -1,6 +1,6 @@
 -- Lists by their elements. Assumes nothing.
-use Prim.Native.Nat.{_+_, _<_, _≤_, suc, zero, ℕ}
-use lib.ListN.{drop, getD, length, replicate}
+use Prim.Native.Nat.{_+_, _-_, _<_, _≤_, min, suc, zero, ℕ}
+use lib.ListN.{drop, getD, length, length-drop, length-take, replicate, take}
 use lib.Seq.{ext-getD, getD-drop, getD-take}
 use mathlib.Core.List.{List, _++_, _∷_}
 use mathlib.Core.Path.{_∙_, _≡_, ap, ap₂, refl, sym}
@@ -58,3 +58,21 @@ table-is d f xs h = sym (is-each f 0 (length xs) d xs refl (λ i l. let z : i �
 -- element i of the part from place a on is element a + i of the list
 pub getD-part : {A : Type 0} (a k : ℕ) (xs : List A) (i : ℕ) (d : A) → i < k → getD (part a k xs) i d ≡ getD xs (a + i) d
 getD-part a k xs i d h = getD-take k (drop a xs) i d h ∙ getD-drop a xs i d
+
+-- two lists that agree below n have the same first n elements
+pub take-same : {A : Type 0} (d : A) (n : ℕ) (xs ys : List A) → length xs ≡ length ys → ((k : ℕ) → k < n → getD xs k d ≡ getD ys k d) → take n xs ≡ take n ys
+take-same d n xs ys l h =
+    ext-getD d (take n xs) (take n ys) (length-take n xs ∙ ap (min n) l ∙ sym (length-take n ys))
+    (λ i b. let w : i < n = omega (arith, length-take n xs) in getD-take n xs i d w ∙ h i w ∙ sym (getD-take n ys i d w))
+
+-- two lists that agree from n on have the same elements there
+pub drop-same : {A : Type 0} (d : A) (n : ℕ) (xs ys : List A) → length xs ≡ length ys → ((k : ℕ) → n ≤ k → getD xs k d ≡ getD ys k d) → drop n xs ≡ drop n ys
+drop-same d n xs ys l h =
+    ext-getD d (drop n xs) (drop n ys) (length-drop n xs ∙ ap (λ (x : ℕ). x - n) l ∙ sym (length-drop n ys))
+    (λ i b. getD-drop n xs i d ∙ h (n + i) (omega arith) ∙ sym (getD-drop n ys i d))
+
+-- each element of zeros is 0, and so is the default
+pub zeros-at : (m k : ℕ) → getD {A = ℕ} (replicate m 0) k 0 ≡ 0
+zeros-at zero k = refl
+zeros-at (suc m) zero = refl
+zeros-at (suc m) (suc k) = zeros-at m k

@@ -23,7 +23,7 @@ use Rattle.rows.specs.declared.choice.Best.{Best}
 use Rattle.rows.specs.declared.choice.Best.the-variants.{Nobody, At}
 use Rattle.rows.specs.declared.colours.Run.{Run}
 use Rattle.method.proofs.Circuits.{circuit-in}
-use Rattle.rows.proofs.CircuitLaws.{lies-at}
+use Rattle.method.proofs.Circuits.{lies-at}
 use Rattle.rows.proofs.RunLaws.{fits-is}
 
 -- ONE CIRCUIT MORE. It is placed already

@@ -1,5 +1,4 @@
 pub mod Written
-pub mod CircuitLaws
 pub mod LoadLaws
 pub mod AreaLaws
 pub mod ColourLaws

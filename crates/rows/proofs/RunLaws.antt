@@ -20,7 +20,7 @@ use Rattle.rows.specs.Colours.{isNot, BlueTo, Around}
 use Rattle.rows.specs.Choice.{fitsRun}
 use Rattle.rows.specs.declared.colours.Run.{Run}
 use Rattle.rows.proofs.Written.{at-past}
-use Rattle.rows.proofs.CircuitLaws.{OnLine}
+use Rattle.method.proofs.Circuits.{OnLine}
 
 -- the end of the run, as the loop finds it
 pub past-is : (n l past : ℕ) (K : List ℕ) → l ≤ n → l ≡ runFrom n K → past ≡ seek (isNot K open') l (n + 1 - l) → past ≡ runPast n K

@@ -12,7 +12,7 @@ use Rattle.records.specs.declared.Circuit.{Circuit}
 use Rattle.records.proofs.Files.{length-circuitsIn}
 use Rattle.rows.specs.Loads.{loadTo}
 use Rattle.method.proofs.Circuits.{circuit-in}
-use Rattle.rows.proofs.CircuitLaws.{lies-at}
+use Rattle.method.proofs.Circuits.{lies-at}
 use Rattle.rows.proofs.LoadLaws.{load-none, load-more, load-all, load-below}
 use Rattle.rows.proofs.loads.count_loads.Statement.{statement}
 use Rattle.rows.proofs.loads.count_loads.Tie as tie
