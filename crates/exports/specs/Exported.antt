@@ -1,0 +1,34 @@
+-- What `fibre_plan` answers, and what the three lent areas hold afterwards, for every input. What a reader must believe.
+-- `proofs/Told.antt` shows `told-outcome`: the answer of `plan` can be told from it. Assumes nothing.
+use Prim.Native.Nat.{ℕ, zero, suc, _+_, _*_, _/_}
+use mathlib.Core.Path.{_≡_}
+use mathlib.Core.List.{List}
+use lib.ListN.{length}
+use Rattle.records.specs.Records.{circuitsOf}
+use Rattle.strands.specs.declared.Counts.{Counts}
+use Rattle.strands.specs.Laid.{countsOf, fibreList, assignmentList}
+use Rattle.planner.specs.Outcome.{judged, answerBy, ifAccepted, zeroedTo}
+use Rattle.planner.specs.declared.Answer.{Answer}
+use Rattle.planner.specs.declared.Answer.the-variants.{Planned, Refused}
+use Rattle.exports.specs.declared.PlanAnswer.{PlanAnswer}
+
+-- an answer as numbers: refusal 0 is a plan
+abbrev pub flat : Answer → PlanAnswer
+flat (Planned counts) = record { refusal = 0; place = 0; fibres = counts .fibres; total = counts .total; floor = counts .floor }
+flat (Refused number place) = record { refusal = number; place = place; fibres = 0; total = 0; floor = 0 }
+
+-- a plan where the refusal is 0
+abbrev pub toldBy : ℕ → ℕ → Counts → Answer
+toldBy zero place counts = Planned counts
+toldBy (suc k) place counts = Refused (suc k) place
+
+-- the answer that a caller tells from the numbers
+abbrev pub told : PlanAnswer → Answer
+told r = toldBy (r .refusal) (r .place) (record { fibres = r .fibres; total = r .total; floor = r .floor })
+
+-- the answer and every byte of the three lent areas
+pub record Exported (n w : ℕ) (s fibres₀ assigns₀ work₀ fibres₁ assigns₁ work₁ : List ℕ) (r : PlanAnswer) : Type 0 where
+  pub answered : r ≡ flat (answerBy (judged n w s fibres₀ assigns₀ work₀) (countsOf n w (circuitsOf s)))
+  pub listed : fibres₁ ≡ ifAccepted (judged n w s fibres₀ assigns₀ work₀) (fibreList n w 0 (circuitsOf s) fibres₀) fibres₀
+  pub assigned : assigns₁ ≡ ifAccepted (judged n w s fibres₀ assigns₀ work₀) (assignmentList n w 0 (circuitsOf s) assigns₀) assigns₀
+  pub cleared : work₁ ≡ ifAccepted (judged n w s fibres₀ assigns₀ work₀) (zeroedTo (4 * n + 4 * (length s / 8)) work₀) work₀

@@ -1,0 +1,52 @@
+// The planner for callers in C and Rust: the answer's enum as a plain struct of numbers.
+use planner::Answer;
+ghost use mathlib.Core.Path.{_≡_};
+ghost use Rattle.exports.specs.Exported.{flat, Exported};
+
+// Planned where `refusal` is 0, with the three numbers; else the refusal's number and place, and zeros.
+#[repr(C)]
+pub struct PlanAnswer {
+    pub refusal: u32,
+    pub place: u32,
+    pub fibres: usize,
+    pub total: usize,
+    pub floor: usize,
+}
+
+// An answer as a plain struct.
+fn flattened(a: Answer) -> PlanAnswer
+    ensures { λ r. ⌜ r ≡ flat a ⌝ }
+{
+    match a {
+        Answer::Planned(c) => PlanAnswer {
+            refusal: 0,
+            place: 0,
+            fibres: c.fibres,
+            total: c.total,
+            floor: c.floor,
+        },
+        Answer::Refused { number, place } => PlanAnswer {
+            refusal: number,
+            place,
+            fibres: 0,
+            total: 0,
+            floor: 0,
+        },
+    }
+}
+
+// Plans the circuits of a file on a line of so many links with so many wavelengths.
+#[no_mangle]
+pub extern "C" fn fibre_plan(
+    links: usize,
+    wavelengths: usize,
+    circuits: &[u8],
+    fibres: &mut [u8],
+    assignments: &mut [u8],
+    work: &mut [u8],
+) -> PlanAnswer
+    ensures { λ r. ⌜ Exported links wavelengths (now (circuits .entry)) (now (fibres .entry)) (now (assignments .entry)) (now (work .entry)) (now (fibres .exit)) (now (assignments .exit)) (now (work .exit)) r ⌝ }
+{
+    let a = planner::plan(links, wavelengths, circuits, fibres, assignments, work);
+    flattened(a)
+}

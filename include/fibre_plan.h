@@ -1,0 +1,85 @@
+/* A fibre planner that is proved: every circuit of a line gets a fibre and a wavelength.
+ *
+ * Build the archive with `rt staticlib exports`, and link target/staticlib/libexports.a (x86-64).
+ * The function keeps nothing between calls and allocates nothing; several threads may call it at
+ * the same time, each with areas of its own.
+ *
+ * All records have 8 bytes; all numbers are unsigned and stand low byte first.
+ *
+ *   circuit      number (4 bytes, from 1, no two alike), first link (2), last link (2)
+ *   fibre        number (2 bytes, from 1), first link (2), last link (2), layer (2, from 1)
+ *   assignment   circuit number (4 bytes), fibre number (2), wavelength (2, from 1)
+ */
+#ifndef FIBRE_PLAN_H
+#define FIBRE_PLAN_H
+
+#include <stddef.h>
+#include <stdint.h>
+
+#ifdef __cplusplus
+extern "C" {
+#endif
+
+/* The largest values that are accepted. */
+#define FIBRE_PLAN_MAX_LINKS 512
+#define FIBRE_PLAN_MAX_WAVELENGTHS 40
+#define FIBRE_PLAN_MAX_CIRCUITS 2048
+
+/* The bytes that each area must have, for so many circuits and links. */
+#define FIBRE_PLAN_FIBRE_BYTES(circuits) (16 * (size_t)(circuits))
+#define FIBRE_PLAN_ASSIGNMENT_BYTES(circuits) (8 * (size_t)(circuits))
+#define FIBRE_PLAN_WORK_BYTES(links, circuits) (4 * (size_t)(links) + 4 * (size_t)(circuits))
+
+/* What fibre_plan answers. Where it refuses, the last three are 0.
+ *
+ * The tests run in this order, each over the whole input; the first refusal that applies is given,
+ * and none otherwise. Places are circuit records, counted from 1.
+ *
+ *   refusal  given when                                                   place
+ *      0     planned                                                      0
+ *      1     the circuit bytes are not a multiple of 8                    0
+ *      2     there are more than 2,048 circuits                           0
+ *      3     links is not 1 to 512                                        0
+ *      4     wavelengths is not 1 to 40                                   0
+ *      5     a circuit number is 0                                        the first such record
+ *      6     a first link is 0, or past the last, or the last past links  the first such record
+ *      7     a circuit number stands twice                                the first that repeats
+ *      8     fibres has fewer than 16 bytes a circuit                     0
+ *      9     assignments has fewer than 8 bytes a circuit                 0
+ *     10     work has fewer than 4 bytes a link and 4 bytes a circuit     0
+ */
+typedef struct fibre_plan_answer {
+    uint32_t refusal; /* 0: planned */
+    uint32_t place;
+    size_t fibres;    /* how many fibre records were written */
+    size_t total;     /* the sum over the fibres of the links that they span */
+    size_t floor;     /* a length that no valid plan can be shorter than */
+} fibre_plan_answer;
+
+/* Plans the circuits of a line.
+ *
+ *   links, wavelengths   of the line, and of each fibre; any value is taken
+ *   circuits             circuits_len bytes of circuit records, in any order; only read
+ *   fibres               fibres_len bytes; the fibre records are written to its start
+ *   assignments          assignments_len bytes; an assignment for each circuit is written to its
+ *                        start, in the order of the circuits
+ *   work                 work_len bytes to work in; after a plan its first
+ *                        FIBRE_PLAN_WORK_BYTES(links, circuits) bytes are zero
+ *
+ * What stood in the three areas before does not matter. Every byte behind what is named here is
+ * left as it was, and a refusal changes no byte.
+ *
+ * The caller sees to it that each pointer is to so many bytes (and is not NULL, not even where the
+ * length is 0), that the four areas do not overlap, and that nobody else uses the three that are
+ * written, or writes to the circuits, during the call. */
+fibre_plan_answer fibre_plan(size_t links, size_t wavelengths,
+                             const uint8_t *circuits, size_t circuits_len,
+                             uint8_t *fibres, size_t fibres_len,
+                             uint8_t *assignments, size_t assignments_len,
+                             uint8_t *work, size_t work_len);
+
+#ifdef __cplusplus
+}
+#endif
+
+#endif

@@ -1,0 +1,112 @@
+//! The table of refusals.
+use std::error::Error;
+use std::fmt;
+
+/// Why an input was refused. A place is that of a circuit, counted from 1.
+#[derive(Clone, Copy, Debug, PartialEq, Eq, Hash)]
+pub enum Refusal {
+    /// 1: the circuit bytes are not a multiple of 8.
+    Records,
+    /// 2: there are more than 2,048 circuits.
+    Circuits,
+    /// 3: the number of links is not 1 to 512.
+    Links,
+    /// 4: the number of wavelengths is not 1 to 40.
+    Wavelengths,
+    /// 5: a circuit number is 0.
+    Zero {
+        /// The first such record.
+        place: usize,
+    },
+    /// 6: a first link is 0, or past the last link, or the last link is past the line's end.
+    Ends {
+        /// The first such record.
+        place: usize,
+    },
+    /// 7: a circuit number stands twice.
+    Repeated {
+        /// The first record that repeats an earlier one.
+        place: usize,
+    },
+    /// 8: the fibre list has fewer than 16 bytes a circuit.
+    FibreRoom,
+    /// 9: the assignment list has fewer than 8 bytes a circuit.
+    AssignmentRoom,
+    /// 10: the work area has fewer than 4 bytes a link and 4 bytes a circuit.
+    WorkRoom,
+}
+
+impl Refusal {
+    /// The refusal with a number and a place of the table.
+    pub(crate) fn from_table(number: u32, place: usize) -> Self {
+        match number {
+            1 => Self::Records,
+            2 => Self::Circuits,
+            3 => Self::Links,
+            4 => Self::Wavelengths,
+            5 => Self::Zero { place },
+            6 => Self::Ends { place },
+            7 => Self::Repeated { place },
+            8 => Self::FibreRoom,
+            9 => Self::AssignmentRoom,
+            10 => Self::WorkRoom,
+            _ => unreachable!("the contract of the archive gives no refusal but 1 to 10"),
+        }
+    }
+
+    /// Its number in the table, 1 to 10.
+    pub fn number(self) -> u32 {
+        match self {
+            Self::Records => 1,
+            Self::Circuits => 2,
+            Self::Links => 3,
+            Self::Wavelengths => 4,
+            Self::Zero { .. } => 5,
+            Self::Ends { .. } => 6,
+            Self::Repeated { .. } => 7,
+            Self::FibreRoom => 8,
+            Self::AssignmentRoom => 9,
+            Self::WorkRoom => 10,
+        }
+    }
+
+    /// The circuit that it is about, counted from 1, or 0 where it is about none.
+    pub fn place(self) -> usize {
+        match self {
+            Self::Zero { place } | Self::Ends { place } | Self::Repeated { place } => place,
+            _ => 0,
+        }
+    }
+
+    /// What is wrong.
+    fn text(self) -> &'static str {
+        match self {
+            Self::Records => "the circuit bytes are not a multiple of 8",
+            Self::Circuits => "there are more than 2,048 circuits",
+            Self::Links => "the number of links is not 1 to 512",
+            Self::Wavelengths => "the number of wavelengths is not 1 to 40",
+            Self::Zero { .. } => "its number is 0",
+            Self::Ends { .. } => "its ends are not two links of the line, in order",
+            Self::Repeated { .. } => "its number stands twice",
+            Self::FibreRoom => "the fibre list is too short",
+            Self::AssignmentRoom => "the assignment list is too short",
+            Self::WorkRoom => "the work area is too short",
+        }
+    }
+}
+
+impl fmt::Display for Refusal {
+    fn fmt(&self, f: &mut fmt::Formatter<'_>) -> fmt::Result {
+        match self.place() {
+            0 => write!(f, "refusal {}: {}", self.number(), self.text()),
+            place => write!(
+                f,
+                "refusal {}, record {place}: {}",
+                self.number(),
+                self.text()
+            ),
+        }
+    }
+}
+
+impl Error for Refusal {}

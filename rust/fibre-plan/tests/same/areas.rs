@@ -1,0 +1,82 @@
+//! Lent areas full of noise, and what a planner leaves in them.
+use inputs::Rng;
+use reference::Slip;
+
+/// Bytes behind each lent area, which nobody may touch.
+const GUARD: usize = 16;
+
+/// One call: its numbers, its circuit file, and the lengths of the three areas.
+#[derive(Clone, Debug)]
+pub struct Input {
+    pub links: usize,
+    pub wavelengths: usize,
+    pub circuits: Vec<u8>,
+    pub lengths: [usize; 3],
+}
+
+/// The three numbers of a plan, or number and place of a refusal.
+pub type Answer = Result<[usize; 3], (u32, usize)>;
+
+/// What a call answered and what it left in the areas, guards included.
+#[derive(Debug, PartialEq, Eq)]
+pub struct Seen {
+    pub answer: Answer,
+    pub areas: [Vec<u8>; 3],
+}
+
+impl Input {
+    /// A call with areas of just the lengths that are asked for.
+    pub fn new(links: usize, wavelengths: usize, circuits: Vec<u8>) -> Self {
+        let many = circuits.len() / 8;
+        let lengths = [
+            fibre_plan::fibre_bytes(many),
+            fibre_plan::assignment_bytes(many),
+            fibre_plan::work_bytes(links.min(600), many),
+        ];
+        Self {
+            links,
+            wavelengths,
+            circuits,
+            lengths,
+        }
+    }
+
+    /// The areas before the call: noise that depends only on the input.
+    fn noise(&self) -> [Vec<u8>; 3] {
+        let mut rng = Rng::new((self.links ^ self.circuits.len()) as u64);
+        self.lengths.map(|length| {
+            let mut area = vec![0; length + GUARD];
+            rng.fill(&mut area);
+            area
+        })
+    }
+
+    /// What a planner answers and leaves.
+    fn seen(&self, planner: impl Fn(&[u8], [&mut [u8]; 3]) -> Answer) -> Seen {
+        let mut areas = self.noise();
+        let file = self.circuits.clone();
+        let [f, a, k] = &mut areas;
+        let [x, y, z] = self.lengths;
+        let answer = planner(&file, [&mut f[..x], &mut a[..y], &mut k[..z]]);
+        assert_eq!(file, self.circuits, "the circuit bytes are only read");
+        Seen { answer, areas }
+    }
+
+    /// What the library answers and leaves.
+    pub fn by_library(&self) -> Seen {
+        self.seen(|file, [f, a, k]| {
+            fibre_plan::plan_bytes(self.links, self.wavelengths, file, f, a, k)
+                .map(|c| [c.fibres, c.total, c.floor])
+                .map_err(|r| (r.number(), r.place()))
+        })
+    }
+
+    /// What the reference answers and leaves, with a mistake or none.
+    pub fn by_reference(&self, slip: Slip) -> Seen {
+        self.seen(|file, [f, a, k]| {
+            reference::plan_with(slip, self.links, self.wavelengths, file, f, a, k)
+                .map(|c| [c.fibres, c.total, c.floor])
+                .map_err(|r| (r.number, r.place))
+        })
+    }
+}

@@ -1,0 +1,151 @@
+//! Inputs: each is made from its number alone, so that a failure can be had again.
+use crate::areas::Input;
+use inputs::{encode, Circuit, Numbers, Rng, FAMILIES};
+
+/// The most links, wavelengths and circuits of an input.
+#[derive(Clone, Copy)]
+pub struct Size {
+    pub links: usize,
+    pub wavelengths: usize,
+    pub circuits: usize,
+}
+
+pub const SMALL: Size = Size {
+    links: 12,
+    wavelengths: 4,
+    circuits: 14,
+};
+pub const MIDDLE: Size = Size {
+    links: 100,
+    wavelengths: 40,
+    circuits: 120,
+};
+pub const LARGE: Size = Size {
+    links: 512,
+    wavelengths: 40,
+    circuits: 2048,
+};
+
+/// The generator of input i of a series.
+pub fn rng_of(series: u64, i: usize) -> Rng {
+    Rng::new(Rng::new(series).bits() ^ i as u64)
+}
+
+/// Circuits of one family, their numbers rising or not.
+pub fn circuits(links: usize, many: usize, rng: &mut Rng) -> Vec<Circuit> {
+    let family = FAMILIES[rng.within(0, 5)];
+    let numbers = [Numbers::Rising, Numbers::Shuffled][rng.within(0, 1)];
+    let mut list = family.circuits(many, links, numbers, rng);
+    if rng.once_in(2) {
+        rng.shuffle(&mut list);
+    }
+    list
+}
+
+/// An input that is accepted. Half of them are lent more than they need.
+pub fn accepted(size: Size, rng: &mut Rng) -> Input {
+    let links = rng.within(1, size.links);
+    let wavelengths = rng.within(1, size.wavelengths);
+    let many = rng.within(0, size.circuits);
+    let mut input = Input::new(links, wavelengths, encode(&circuits(links, many, rng)));
+    if rng.once_in(2) {
+        input.lengths = input.lengths.map(|length| length + rng.within(0, 40));
+    }
+    input
+}
+
+/// An input at the limits: 512 links and 2,048 circuits.
+pub fn full_size(rng: &mut Rng) -> Input {
+    let file = encode(&circuits(LARGE.links, LARGE.circuits, rng));
+    Input::new(LARGE.links, rng.within(1, LARGE.wavelengths), file)
+}
+
+/// Numbers that no line and no fibre has; some are small if they are cut to 8, 16 or 32 bits.
+const BAD: [usize; 7] = [
+    0,
+    513,
+    41 + 512,
+    256 + 513,
+    65_536 + 3,
+    (1 << 32) + 3,
+    usize::MAX,
+];
+
+/// Writes a two-byte field of a record.
+fn set_half(file: &mut [u8], at: usize, x: usize) {
+    file[at..at + 2].copy_from_slice(&(x as u16).to_le_bytes());
+}
+
+/// Spoils one record.
+fn spoil_record(input: &mut Input, rng: &mut Rng) {
+    let many = input.circuits.len() / 8;
+    if many == 0 {
+        return;
+    }
+    let at = 8 * rng.within(0, many - 1);
+    let other = 8 * rng.within(0, many - 1);
+    let links = input.links;
+    let file = &mut input.circuits;
+    match rng.within(0, 5) {
+        0 => file[at..at + 4].fill(0),
+        1 => set_half(file, at + 4, 0),
+        2 => set_half(file, at + 4, links.saturating_add(1)),
+        3 => set_half(file, at + 6, links.saturating_add(1)),
+        4 => file.copy_within(other..other + 4, at),
+        _ => file[at + rng.within(0, 7)] ^= 1 << rng.within(0, 7),
+    }
+}
+
+/// Makes the file shorter or longer, or a lent area too short.
+fn spoil_length(input: &mut Input, rng: &mut Rng) {
+    let area = rng.within(0, 2);
+    let file = &mut input.circuits;
+    match rng.within(0, 4) {
+        0 => file.truncate(file.len().saturating_sub(rng.within(1, 9))),
+        1 => file.resize(file.len() + rng.within(1, 9), 1),
+        2 => file.resize(8 * 2048 + rng.within(1, 9), 1),
+        3 => input.lengths[area] = input.lengths[area].saturating_sub(1),
+        _ => input.lengths[area] = 0,
+    }
+}
+
+/// An input with one to four faults, some of which may undo each other.
+pub fn damaged(rng: &mut Rng) -> Input {
+    let mut input = accepted(SMALL, rng);
+    for _ in 0..rng.within(1, 4) {
+        match rng.within(0, 9) {
+            0 => input.links = BAD[rng.within(0, 6)],
+            1 => input.wavelengths = BAD[rng.within(0, 6)],
+            2..=4 => spoil_length(&mut input, rng),
+            _ => spoil_record(&mut input, rng),
+        }
+    }
+    input
+}
+
+/// Circuit numbers of the small inputs: none, and an order that is another byte by byte.
+const NUMBERS: [u32; 4] = [0, 1, 2, 1 << 24];
+
+/// How many circuits there are with these numbers and both ends 0 to n + 1.
+pub fn circuits_on(links: usize) -> usize {
+    NUMBERS.len() * (links + 2) * (links + 2)
+}
+
+/// Of all files of so many such circuits, the one that has a number.
+pub fn file_of(links: usize, many: usize, mut code: usize) -> Vec<u8> {
+    let mut digit = |base: usize| {
+        let d = code % base;
+        code /= base;
+        d
+    };
+    let list: Vec<Circuit> = (0..many)
+        .map(|_| {
+            (
+                NUMBERS[digit(4)],
+                digit(links + 2) as u16,
+                digit(links + 2) as u16,
+            )
+        })
+        .collect();
+    encode(&list)
+}

@@ -1,0 +1,157 @@
+//! The library and a reference written from the scope paper agree on every answer and every byte.
+mod areas;
+mod draws;
+
+use areas::{Answer, Input, Seen};
+use draws::{accepted, damaged, full_size, rng_of, Size, LARGE, MIDDLE, SMALL};
+use inputs::{encode, Rng};
+use reference::{Slip, SLIPS};
+use std::sync::atomic::{AtomicUsize, Ordering};
+use std::thread;
+
+/// Does the work for each number below `count`, on all cores.
+fn spread(count: usize, work: impl Fn(usize) + Sync) {
+    let cores = thread::available_parallelism().map_or(1, usize::from);
+    let work = &work;
+    thread::scope(|scope| {
+        for core in 0..cores {
+            scope.spawn(move || (core..count).step_by(cores).for_each(work));
+        }
+    });
+}
+
+/// Both give the same answer and leave the same bytes; the answer is handed on.
+fn same(input: &Input) -> Answer {
+    let ours = input.by_library();
+    let theirs = input.by_reference(Slip::None);
+    assert!(
+        ours == theirs,
+        "{input:?}\nlibrary {:?}, reference {:?}",
+        ours.answer,
+        theirs.answer
+    );
+    ours.answer
+}
+
+/// So many accepted inputs of a size.
+fn same_accepted(series: u64, count: usize, size: Size) {
+    spread(count, |i| {
+        let answer = same(&accepted(size, &mut rng_of(series, i)));
+        assert!(
+            answer.is_ok(),
+            "input {i} of series {series} was refused: {answer:?}"
+        );
+    });
+}
+
+#[test]
+fn every_small_input() {
+    for links in 0..=3 {
+        for many in 0..=3 {
+            let files = draws::circuits_on(links).pow(many as u32);
+            spread(3 * files, |i| {
+                let file = draws::file_of(links, many, i / 3);
+                let _ = same(&Input::new(links, i % 3, file));
+            });
+        }
+    }
+}
+
+#[test]
+fn random_small_inputs() {
+    same_accepted(1, 200_000, SMALL);
+}
+
+#[test]
+fn random_middle_inputs() {
+    same_accepted(2, 5_000, MIDDLE);
+}
+
+#[test]
+fn random_large_inputs() {
+    same_accepted(3, 150, LARGE);
+}
+
+#[test]
+fn inputs_at_the_limits() {
+    spread(150, |i| {
+        assert!(same(&full_size(&mut rng_of(4, i))).is_ok());
+    });
+}
+
+#[test]
+fn limits_and_past_them() {
+    for links in [0, 1, 512, 513, usize::MAX] {
+        for wavelengths in [0, 1, 40, 41, usize::MAX] {
+            for many in [0, 1, 2048, 2049] {
+                let list: Vec<_> = (1..=many).map(|number| (number, 1, 1)).collect();
+                let _ = same(&Input::new(links, wavelengths, encode(&list)));
+            }
+        }
+    }
+}
+
+#[test]
+fn damaged_inputs_meet_every_refusal() {
+    let met = [const { AtomicUsize::new(0) }; 11];
+    spread(100_000, |i| {
+        let answer = same(&damaged(&mut rng_of(5, i)));
+        let number = answer.map_or_else(|(number, _)| number as usize, |_| 0);
+        met[number].fetch_add(1, Ordering::Relaxed);
+    });
+    for (number, times) in met.iter().enumerate() {
+        let times = times.load(Ordering::Relaxed);
+        assert!(times >= 100, "refusal {number} was met only {times} times");
+    }
+}
+
+/// The first records of the assignment list, by rising bytes.
+fn sorted_assignments(seen: &Seen, many: usize) -> Vec<&[u8]> {
+    let mut records: Vec<&[u8]> = seen.areas[1].chunks_exact(8).take(many).collect();
+    records.sort_unstable();
+    records
+}
+
+#[test]
+fn file_order_does_not_matter() {
+    spread(10_000, |i| {
+        let size = if i % 100 == 0 { MIDDLE } else { SMALL };
+        let mut rng = rng_of(6, i);
+        let input = accepted(size, &mut rng);
+        let many = input.circuits.len() / 8;
+        let (one, two) = (input.by_library(), shuffled(&input, &mut rng).by_library());
+        assert_eq!(one.answer, two.answer);
+        assert_eq!(one.areas[0], two.areas[0], "the fibre lists differ");
+        // A circuit has one record in each list, and numbers differ: so each has the same one.
+        assert_eq!(
+            sorted_assignments(&one, many),
+            sorted_assignments(&two, many)
+        );
+    });
+}
+
+/// The same records in another order.
+fn shuffled(input: &Input, rng: &mut Rng) -> Input {
+    let mut records: Vec<&[u8]> = input.circuits.chunks_exact(8).collect();
+    rng.shuffle(&mut records);
+    Input {
+        circuits: records.concat(),
+        ..input.clone()
+    }
+}
+
+#[test]
+fn each_slip_is_noticed() {
+    for slip in SLIPS {
+        let differ = AtomicUsize::new(0);
+        spread(5_000, |i| {
+            let input = accepted(SMALL, &mut rng_of(1, i));
+            if input.by_library() != input.by_reference(slip) {
+                differ.fetch_add(1, Ordering::Relaxed);
+            }
+        });
+        let differ = differ.into_inner();
+        println!("{slip:?}: noticed on {differ} of 5000 inputs");
+        assert!(differ > 0, "{slip:?} was not noticed");
+    }
+}

@@ -1,0 +1,49 @@
+//! Circuit files for tests and measurements, from fixed seeds.
+#![deny(missing_docs)]
+
+mod family;
+mod rng;
+
+pub use family::{Family, FAMILIES};
+pub use rng::Rng;
+
+/// Number, first link and last link of a circuit.
+pub type Circuit = (u32, u16, u16);
+
+/// The circuit file of some circuits: 8 bytes each, low byte first.
+pub fn encode(circuits: &[Circuit]) -> Vec<u8> {
+    let mut bytes = Vec::with_capacity(8 * circuits.len());
+    for (number, first, last) in circuits {
+        bytes.extend(number.to_le_bytes());
+        bytes.extend(first.to_le_bytes());
+        bytes.extend(last.to_le_bytes());
+    }
+    bytes
+}
+
+/// Circuit numbers for a file: no two alike, and none 0.
+#[derive(Clone, Copy, Debug, PartialEq, Eq)]
+pub enum Numbers {
+    /// 1, 2, 3, ..
+    Rising,
+    /// Spread over 32 bits, in no order.
+    Shuffled,
+}
+
+impl Numbers {
+    /// The number of circuit i, counted from 0.
+    pub fn of(self, i: usize) -> u32 {
+        let rising = i as u32 + 1;
+        match self {
+            Self::Rising => rising,
+            Self::Shuffled => scrambled(rising),
+        }
+    }
+}
+
+/// A permutation of the 32-bit numbers that maps only 0 to 0.
+fn scrambled(x: u32) -> u32 {
+    let x = (x ^ (x >> 16)).wrapping_mul(0x7FEB_352D);
+    let x = (x ^ (x >> 15)).wrapping_mul(0x846C_A68B);
+    x ^ (x >> 16)
+}

@@ -1,0 +1,52 @@
+//! The table of refusals.
+use crate::records::Circuit;
+use crate::Refused;
+use std::collections::HashSet;
+
+/// A refusal that applies as a whole.
+fn unless(holds: bool, number: u32) -> Result<(), Refused> {
+    if holds {
+        Ok(())
+    } else {
+        Err(Refused { number, place: 0 })
+    }
+}
+
+/// A refusal of the first circuit that is bad.
+fn unless_bad(
+    circuits: &[Circuit],
+    number: u32,
+    bad: impl FnMut(&Circuit) -> bool,
+) -> Result<(), Refused> {
+    match circuits.iter().position(bad) {
+        None => Ok(()),
+        Some(at) => Err(Refused {
+            number,
+            place: at + 1,
+        }),
+    }
+}
+
+/// The circuits of a file that no test refuses; `lengths` are those of the lent areas.
+pub fn accepted(
+    n: usize,
+    w: usize,
+    file: &[u8],
+    [fibres, assignments, work]: [usize; 3],
+) -> Result<Vec<Circuit>, Refused> {
+    unless(file.len().is_multiple_of(8), 1)?;
+    unless(file.len() / 8 <= 2048, 2)?;
+    unless((1..=512).contains(&n), 3)?;
+    unless((1..=40).contains(&w), 4)?;
+    let circuits: Vec<Circuit> = file.chunks(8).map(Circuit::read).collect();
+    unless_bad(&circuits, 5, |c| c.number == 0)?;
+    unless_bad(&circuits, 6, |c| {
+        c.first == 0 || c.first > c.last || c.last > n
+    })?;
+    let mut seen = HashSet::new();
+    unless_bad(&circuits, 7, |c| !seen.insert(c.number))?;
+    unless(fibres >= 16 * circuits.len(), 8)?;
+    unless(assignments >= 8 * circuits.len(), 9)?;
+    unless(work >= 4 * n + 4 * circuits.len(), 10)?;
+    Ok(circuits)
+}

@@ -1,0 +1,251 @@
+//! The planner as a Rust programmer would write it: the same tests, the same bytes, no proof.
+
+/// Number and place of a refusal.
+pub type Refused = (u32, usize);
+
+/// How many fibres, their total length, and the floor.
+pub type Counts = [usize; 3];
+
+/// What a planner answers.
+pub type Answer = Result<Counts, Refused>;
+
+#[derive(Clone, Copy)]
+struct Circuit {
+    number: u32,
+    first: u16,
+    last: u16,
+    /// Its place in the file, counted from 0.
+    place: u16,
+}
+
+impl Circuit {
+    /// Its first and last link, to count with.
+    fn ends(&self) -> (usize, usize) {
+        (usize::from(self.first), usize::from(self.last))
+    }
+
+    /// Its place, to index with.
+    fn at(&self) -> usize {
+        usize::from(self.place)
+    }
+}
+
+struct Fibre {
+    first: usize,
+    last: usize,
+    layer: usize,
+}
+
+#[derive(Clone, Copy, PartialEq)]
+enum Colour {
+    Red,
+    Blue,
+    Taken,
+    Open,
+}
+use Colour::{Blue, Open, Red, Taken};
+
+fn unless(holds: bool, number: u32) -> Result<(), Refused> {
+    holds.then_some(()).ok_or((number, 0))
+}
+
+fn unless_at(found: Option<usize>, number: u32) -> Result<(), Refused> {
+    found.map_or(Ok(()), |at| Err((number, at + 1)))
+}
+
+fn read(place: usize, record: &[u8]) -> Circuit {
+    let two = |at: usize| u16::from_le_bytes([record[at], record[at + 1]]);
+    Circuit {
+        number: u32::from_le_bytes([record[0], record[1], record[2], record[3]]),
+        first: two(4),
+        last: two(6),
+        place: place as u16,
+    }
+}
+
+/// The first circuit that repeats an earlier one's number.
+fn repeated(circuits: &[Circuit]) -> Option<usize> {
+    for (j, later) in circuits.iter().enumerate() {
+        for earlier in &circuits[..j] {
+            if earlier.number == later.number {
+                return Some(j);
+            }
+        }
+    }
+    None
+}
+
+/// The circuits of a file that no test refuses; `lengths` are those of the lent areas.
+fn accepted(
+    n: usize,
+    w: usize,
+    file: &[u8],
+    [fibres, assignments, work]: [usize; 3],
+) -> Result<Vec<Circuit>, Refused> {
+    let m = file.len() / 8;
+    unless(file.len().is_multiple_of(8), 1)?;
+    unless(m <= 2048, 2)?;
+    unless((1..=512).contains(&n), 3)?;
+    unless((1..=40).contains(&w), 4)?;
+    let records = file.chunks_exact(8).enumerate();
+    let circuits: Vec<Circuit> = records.map(|(j, record)| read(j, record)).collect();
+    unless_at(circuits.iter().position(|c| c.number == 0), 5)?;
+    let bad_ends = |c: &Circuit| c.first == 0 || c.last < c.first || n < usize::from(c.last);
+    unless_at(circuits.iter().position(bad_ends), 6)?;
+    unless_at(repeated(&circuits), 7)?;
+    unless(16 * m <= fibres, 8)?;
+    unless(8 * m <= assignments, 9)?;
+    unless(4 * n + 4 * m <= work, 10)?;
+    Ok(circuits)
+}
+
+/// Each link's c(i); index 0 is no link.
+fn needs(n: usize, w: usize, circuits: &[Circuit]) -> Vec<usize> {
+    let mut load = vec![0usize; n + 1];
+    for c in circuits {
+        let (first, last) = c.ends();
+        load[first..=last].iter_mut().for_each(|l| *l += 1);
+    }
+    load.iter().map(|l| l.div_ceil(w)).collect()
+}
+
+/// The first link in from..to that is not such, or `to`.
+fn end_of(from: usize, to: usize, such: impl Fn(usize) -> bool) -> usize {
+    (from..to).find(|&i| !such(i)).unwrap_or(to)
+}
+
+/// Fills row k. `waiting` stands by rising number.
+fn fill_row(k: usize, colours: &mut [Colour], waiting: &mut Vec<Circuit>, rows: &mut [usize]) {
+    let end = colours.len();
+    let mut from = 1;
+    while let Some(l) = (from..end).find(|&i| colours[i] == Open) {
+        from = l;
+        let past = end_of(l, end, |i| colours[i] == Open);
+        let high = end_of(past, end, |i| colours[i] == Blue);
+        let low = (1..l)
+            .rev()
+            .find(|&i| colours[i] != Blue)
+            .map_or(1, |i| i + 1);
+        let fits = |c: &Circuit| {
+            let (first, last) = c.ends();
+            low <= first && first < past && l <= last && last < high
+        };
+        match waiting.iter().position(fits) {
+            Some(at) => {
+                let c = waiting.remove(at);
+                let (first, last) = c.ends();
+                rows[c.at()] = k;
+                colours[first.max(l)..past.min(last + 1)].fill(Taken);
+            }
+            None => colours[l..past].fill(Blue),
+        }
+    }
+}
+
+/// The row of each circuit, counted from 1, in file order.
+fn fill_sheet(w: usize, circuits: &[Circuit], c: &[usize], top: usize) -> Vec<usize> {
+    let mut waiting = circuits.to_vec();
+    waiting.sort_by_key(|c| c.number);
+    let mut rows = vec![0; circuits.len()];
+    let mut colours = vec![Red; c.len()];
+    for k in 1..=top * w {
+        for (colour, need) in colours.iter_mut().zip(c).skip(1) {
+            if *colour != Blue {
+                *colour = if k <= (top - need) * w { Red } else { Open };
+            }
+        }
+        fill_row(k, &mut colours, &mut waiting, &mut rows);
+    }
+    rows
+}
+
+/// The first fibre of each pair, in the order of the list, and where each layer's pairs start.
+fn pairs(c: &[usize], top: usize) -> (Vec<Fibre>, Vec<usize>) {
+    let (mut list, mut starts) = (Vec::new(), Vec::new());
+    for layer in 1..=top {
+        starts.push(list.len());
+        let lit = |i: usize| c[i] > top - layer;
+        let mut i = 1;
+        while let Some(first) = (i..c.len()).find(|&i| lit(i)) {
+            i = end_of(first, c.len(), lit);
+            list.push(Fibre {
+                first,
+                last: i - 1,
+                layer,
+            });
+        }
+    }
+    (list, starts)
+}
+
+/// Whether each circuit gets the second fibre, in file order.
+fn seconds(circuits: &[Circuit], rows: &[usize]) -> Vec<bool> {
+    let mut order: Vec<&Circuit> = circuits.iter().collect();
+    order.sort_by_key(|c| (rows[c.at()], c.last));
+    let mut second = vec![false; circuits.len()];
+    // The row reached, and the greatest last link on its first fibre.
+    let (mut row, mut reach) = (0, 0);
+    for c in order {
+        if rows[c.at()] != row {
+            (row, reach) = (rows[c.at()], 0);
+        }
+        if c.first <= reach {
+            second[c.at()] = true;
+        } else {
+            reach = c.last;
+        }
+    }
+    second
+}
+
+/// Writes record i of a list, counted from 0.
+fn put(list: &mut [u8], i: usize, fields: [u16; 4]) {
+    let record = list[8 * i..8 * i + 8].chunks_exact_mut(2);
+    for (bytes, field) in record.zip(fields) {
+        bytes.copy_from_slice(&field.to_le_bytes());
+    }
+}
+
+fn write_fibres(list: &mut [u8], pairs: &[Fibre]) {
+    for (i, f) in pairs.iter().flat_map(|f| [f, f]).enumerate() {
+        let fields = [i + 1, f.first, f.last, f.layer];
+        put(list, i, fields.map(|x| x as u16));
+    }
+}
+
+/// The pair of a circuit, among those of its layer and later ones.
+fn pair_of(circuit: &Circuit, pairs: &[Fibre]) -> usize {
+    let (first, _) = circuit.ends();
+    let found = pairs.iter().position(|f| first <= f.last);
+    found.expect("a circuit lies within a fibre of its layer")
+}
+
+/// Plans the circuit records on lent areas.
+pub fn plan(
+    n: usize,
+    w: usize,
+    file: &[u8],
+    fibres: &mut [u8],
+    assignments: &mut [u8],
+    work: &mut [u8],
+) -> Answer {
+    let lengths = [fibres.len(), assignments.len(), work.len()];
+    let circuits = accepted(n, w, file, lengths)?;
+    let c = needs(n, w, &circuits);
+    let top = c.iter().copied().max().unwrap_or(0);
+    let rows = fill_sheet(w, &circuits, &c, top);
+    let (pairs, starts) = pairs(&c, top);
+    write_fibres(fibres, &pairs);
+    for (circuit, second) in circuits.iter().zip(seconds(&circuits, &rows)) {
+        let row = rows[circuit.at()] - 1;
+        let start = starts[row / w];
+        let pair = start + pair_of(circuit, &pairs[start..]);
+        let fibre = 2 * pair + 1 + usize::from(second);
+        let halves = [circuit.number as u16, (circuit.number >> 16) as u16];
+        let fields = [halves[0], halves[1], fibre as u16, (row % w + 1) as u16];
+        put(assignments, circuit.at(), fields);
+    }
+    work[..4 * n + 4 * circuits.len()].fill(0);
+    let total: usize = pairs.iter().map(|f| 2 * (f.last - f.first + 1)).sum();
+    Ok([2 * pairs.len(), total, c.iter().sum()])
+}
