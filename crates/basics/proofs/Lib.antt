@@ -3,5 +3,4 @@ pub mod Searches
 pub mod Tables
 pub mod Counts
 pub mod Sums
-pub mod Loops
 pub mod Pins

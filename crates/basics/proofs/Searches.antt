@@ -225,3 +225,25 @@ pub seek-same : (p q : ℕ → Bool) (i k : ℕ) → ((x : ℕ) → i ≤ x → 
 unfolding seek
 seek-same p q i zero h = refl
 seek-same p q i (suc k) h = rw (h i (omega arith) (omega arith), seek-same p q (suc i) k (λ x a b. h x (omega arith) (omega arith)))
+
+-- two searches that agree, one of them a place on
+pub seek-shift : (p q : ℕ → Bool) (i k : ℕ) → ((x : ℕ) → i ≤ x → x < i + k → p x ≡ q (suc x)) → suc (seek p i k) ≡ seek q (suc i) k
+unfolding seek
+seek-shift p q i zero h = refl
+seek-shift p q i (suc k) h =
+    let t : p i ≡ q (suc i) = h i (omega arith) (omega arith) in
+    on (p i) (λ e. rw (← t, e))
+    (λ e. rw (← t, e) (seek-shift p q (suc i) k (λ x a b. h x (omega arith) (omega arith))))
+
+-- a search from place i on finds what one from a later place e on finds, where none from i to before e passes
+pub seek-later : (p : ℕ → Bool) (i e to : ℕ) → i ≤ e → e ≤ to → ((x : ℕ) → i ≤ x → x < e → p x ≡ false) → seek p i (to - i) ≡ seek p e (to - e)
+seek-later p i e to h l f =
+    let k : i + (e - i) ≡ e = omega arith in
+    seek-skip p i (e - i) to (omega arith) (any-none (λ x. p (i + x)) (e - i) (λ x b. f (i + x) (omega arith) (omega arith)))
+    ∙ ap (λ (z : ℕ). seek p z (to - z)) k
+
+-- two tests that agree have the same lowest
+pub lowest-same : (p q : ℕ → Bool) (num : ℕ → ℕ) (m : ℕ) → ((j : ℕ) → j < m → p j ≡ q j) → lowest p num m ≡ lowest q num m
+unfolding lowest
+lowest-same p q num zero h = refl
+lowest-same p q num (suc m) h = rw (h m (omega arith), lowest-same p q num m (λ j b. h j (omega arith)))

@@ -1,8 +1,8 @@
 -- Lists by their elements. Assumes nothing.
 use Prim.Native.Nat.{_+_, _-_, _<_, _≤_, min, suc, zero, ℕ}
 use lib.ListN.{drop, getD, length, length-drop, length-take, replicate, take}
-use lib.Seq.{ext-getD, getD-drop, getD-take}
-use mathlib.Core.List.{List, _++_, _∷_}
+use lib.Seq.{ext-getD, getD-drop, getD-take, take-nil}
+use mathlib.Core.List.{List, [], _++_, _∷_}
 use mathlib.Core.Path.{_∙_, _≡_, ap, ap₂, refl, sym}
 use native.Mathlib.Nat.{suc-add, zero-add}
 use native.Mathlib.Omega.{arith}
@@ -76,3 +76,13 @@ pub zeros-at : (m k : ℕ) → getD {A = ℕ} (replicate m 0) k 0 ≡ 0
 zeros-at zero k = refl
 zeros-at (suc m) zero = refl
 zeros-at (suc m) (suc k) = zeros-at m k
+
+-- a part, by the elements to its end
+pub part-of-take : {A : Type 0} (a k : ℕ) (xs : List A) → drop a (take (a + k) xs) ≡ part a k xs
+part-of-take zero k xs = ap (λ (i : ℕ). take i xs) (zero-add k)
+part-of-take (suc a) k [] = ap (drop (suc a)) (take-nil (suc a + k)) ∙ sym (take-nil k)
+part-of-take (suc a) k (x ∷ xs) = ap (λ (i : ℕ). drop (suc a) (take i (x ∷ xs))) (suc-add a k) ∙ part-of-take a k xs
+
+-- the elements to its end tell a part
+pub part-kept : {A : Type 0} (a k : ℕ) (xs ys : List A) → take (a + k) xs ≡ take (a + k) ys → part a k xs ≡ part a k ys
+part-kept a k xs ys e = sym (part-of-take a k xs) ∙ ap (drop a) e ∙ part-of-take a k ys

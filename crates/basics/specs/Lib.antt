@@ -1,2 +1,1 @@
 pub mod Tools
-pub mod Loops

@@ -2,10 +2,11 @@
 use Prim.Native.Nat.{_<_, _≤_, suc, zero, ℕ}
 use borrow.Author.Tests.{eq-eqb, eqb-true, lt-leb, ne-eqb}
 use lib.Dec.{eqb}
+use mathlib.Core.Bool.{Bool}
 use mathlib.Core.List.{List}
 use mathlib.Core.Logic.{_≢_, _⊎_, inl, inr, ⊎-elim}
 use mathlib.Core.Option.{none, some}
-use mathlib.Core.Path.{_∙_, _≡_, ap, refl, sym}
+use mathlib.Core.Path.{_∙_, _≡_, ap, fun-ext, refl, sym}
 use native.Mathlib.Omega.{arith}
 use Rattle.basics.specs.Tools.{count}
 use Rattle.basics.proofs.Counts.{count-below, count-lt, count-none, count-some}
@@ -25,6 +26,11 @@ module _ (n : ℕ) where
   pub opens-le : (s : State) → opens s ≤ n
   unfolding opens
   opens-le s = count-below (λ i. eqb (at (s .colours) (suc i)) open') n
+
+  -- as many are, where the same links are
+  pub opens-same : (s s' : State) → ((i : ℕ) → eqb (at (s .colours) i) open' ≡ eqb (at (s' .colours) i) open') → opens s ≡ opens s'
+  unfolding opens
+  opens-same s s' h = ap (λ (p : ℕ → Bool). count (λ i. p (suc i)) n) (fun-ext h)
 
   -- one is
   pub opens-some : (s : State) (i : ℕ) → 1 ≤ i → i ≤ n → at (s .colours) i ≡ open' → 1 ≤ opens s

@@ -5,9 +5,9 @@ use lib.Dec.{eqb, leb, ltb}
 use mathlib.Core.Bool.{Bool, _&&_, _||_, cond, not, true}
 use mathlib.Core.List.{List}
 use mathlib.Core.Logic.{_≢_, _⊎_, inl, inr, ⊎-elim}
-use mathlib.Core.Path.{_∙_, _≡_, ap, refl}
+use mathlib.Core.Path.{_∙_, _≡_, ap, ap₂, fun-ext, refl}
 use native.Mathlib.Omega.{arith}
-use Rattle.basics.specs.Tools.{each, seek}
+use Rattle.basics.specs.Tools.{each, every, seek}
 use Rattle.basics.proofs.Bools.{and-l, and-of, and-r, by-eq, on, or-cases, or-l, or-r}
 use Rattle.basics.proofs.Searches.{every-at, every-of, seek-ge, seek-hit, seek-le, seek-miss}
 use Rattle.basics.proofs.Tables.{getD-each, getD-each-out}
@@ -130,3 +130,31 @@ module _ (n : ℕ) where
   pub fits-real : (colours : List ℕ) (c : Circuit) → fits n colours c ≡ true → 1 ≤ c .last
   unfolding fits
   fits-real colours c e = let a : runFrom n colours ≤ c .last = leb-true (runFrom n colours) (c .last) (and-l _ _ (and-l _ _ e)) in omega (arith, from-pos colours)
+
+-- COLOURS THAT AGREE on which links are open have the same run
+module _ (n : ℕ) (K K' : List ℕ) (opens : (x : ℕ) → eqb (at K x) open' ≡ eqb (at K' x) open') where
+  -- its start
+  pub from-same : runFrom n K ≡ runFrom n K'
+  unfolding runFrom
+  from-same = ap (λ (p : ℕ → Bool). seek p 1 n) (fun-ext opens)
+
+  -- its end
+  pub past-same : runPast n K ≡ runPast n K'
+  unfolding runPast
+  past-same = ap₂ (λ (p : ℕ → Bool) (f : ℕ). seek (λ x. not (p x)) f (suc n - f)) (fun-ext opens) from-same
+
+  -- its links
+  pub inRun-same : (x : ℕ) → inRun n K x ≡ inRun n K' x
+  unfolding inRun
+  inRun-same x = ap₂ (λ (f p : ℕ). leb f x && ltb x p) from-same past-same
+
+  module _ (blues : (x : ℕ) → eqb (at K x) blue ≡ eqb (at K' x) blue) where
+    -- and, if they agree on the blue links too, the same circuits fit
+    pub fits-same : (c : Circuit) → fits n K c ≡ fits n K' c
+    unfolding fits
+    fits-same c =
+        let p : ℕ → Bool = λ x. inRun n K x || eqb (at K x) blue in
+        let q : ℕ → Bool = λ x. inRun n K' x || eqb (at K' x) blue in
+        let e : p ≡ q = fun-ext (λ x. ap₂ _||_ (inRun-same x) (blues x)) in
+        ap₂ (λ (f g : ℕ). leb f (c .last) && ltb (c .first) g && every p (c .first) (suc (c .last) - c .first)) from-same past-same
+        ∙ ap (λ (t : ℕ → Bool). leb (runFrom n K') (c .last) && ltb (c .first) (runPast n K') && every t (c .first) (suc (c .last) - c .first)) e

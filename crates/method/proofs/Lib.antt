@@ -20,3 +20,5 @@ pub mod Rearranged
 pub mod Demands
 pub mod BenchPlans
 pub mod Bench
+pub mod PairPlaces
+pub mod Given

@@ -41,6 +41,7 @@ module _ (n w : ℕ) (s : List ℕ) (fibres assigns work : ℕ) (passed : NoneAp
         few = passed2 (length s / 8) (passed 1 (omega arith));
         whole = passed1 s (passed 0 (omega arith));
         lies = lies;
+        distinct = distinct;
       }
 
   -- the lent areas are long enough

@@ -42,7 +42,8 @@ pub fn settle(
     ensures { λ r. ⌜ Settled n w m from (now (circuits .entry)) (now (fibres .entry)) (now (assigns .entry)) (now (work .entry)) (now (fibres .exit)) (now (assigns .exit)) (now (work .exit)) r ⌝ }
 {
     let k = 4 * n + 4 * m;
-    let top = rows::fill_sheet(n, w, m, circuits, &mut work[0..k]);
+    let a = 8 * m;
+    let top = rows::fill_sheet(n, w, m, circuits, &mut work[0..k], &mut assigns[0..a]);
     let counts = strands::lay(
         circuits,
         n,

@@ -1,12 +1,13 @@
 -- Laws of parts: lists of a known length, records that are stored, and parts that were lent and came back. Assumes nothing.
-use Prim.Native.Nat.{ℕ, zero, suc, _+_, _/_, _%_}
+use Prim.Native.Nat.{ℕ, zero, suc, _+_, _-_, _/_, _%_, _≤_}
 use mathlib.Core.Path.{_≡_, refl, ap, _∙_, sym}
 use mathlib.Core.List.{List, [], _∷_, _++_, append-assoc, append-nil}
 use native.Mathlib.Omega.{arith}
 use lib.ListN.{length, getD, drop, take, drop-of-length-le, replicate}
 use Rattle.records.specs.Bytes.{bytes16, bytes32, setCell, encode}
 use Rattle.records.specs.Records.{putRecord}
-use lib.Seq.{getD-append-add, take-at, drop-append-add, drop-drop}
+use borrow.Rule.Slice.PartMut.{putMid, drop-put}
+use lib.Seq.{take-at, drop-append-add, drop-drop}
 
 -- the first n elements, written out one by one
 abbrev pub firsts : ℕ → List ℕ → List ℕ
@@ -47,6 +48,10 @@ put-wide t s i low high v c d p q e = e ∙ (λ k. putRecord s i (encode (p k �
 pub zeroed : (w w₀ : List ℕ) (k : ℕ) → length w₀ ≡ k → w ≡ replicate k 0 ++ drop k w₀ → w ≡ replicate k 0
 zeroed w w₀ k l h = h ∙ ap (λ (t : List ℕ). replicate k 0 ++ t) (drop-of-length-le w₀ {i = k} (omega arith)) ∙ append-nil (replicate k 0)
 
--- an element past the first n is an element of what follows them
-pub getD-right : (a b : List ℕ) (n i : ℕ) → length a ≡ n → getD (a ++ b) (n + i) 0 ≡ getD b i 0
-getD-right a b n i e = rw (← e) (getD-append-add a b i 0)
+-- a part at the start that was lent and is back changes nothing past it
+pub rest-kept : (e k : ℕ) (xs ys : List ℕ) → e ≤ k → e ≤ length xs → length ys ≡ e - 0 → drop k (putMid 0 (e - 0) xs ys) ≡ drop k xs
+rest-kept e k xs ys h l q =
+    let z : e + (k - e) ≡ k = omega arith in
+    let d : drop e (putMid 0 (e - 0) xs ys) ≡ drop e xs = drop-put 0 e xs ys (omega arith) l q in
+    ap (λ x. drop x (putMid 0 (e - 0) xs ys)) (sym z) ∙ sym (drop-drop (k - e) e (putMid 0 (e - 0) xs ys)) ∙ ap (drop (k - e)) d
+    ∙ drop-drop (k - e) e xs ∙ ap (λ x. drop x xs) z

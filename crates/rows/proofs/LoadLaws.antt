@@ -20,7 +20,7 @@ use Rattle.method.specs.Line.{circuit, uses}
 use Rattle.method.specs.Sheet.{at, load, need, most}
 use Rattle.method.proofs.Colours.{at-each, at-each-cases}
 use Rattle.records.specs.declared.Circuit.{Circuit}
-use Rattle.rows.specs.Loads.{oneUpAt, oneUp, Below, loadTo, rounded, roundedAt}
+use Rattle.rows.specs.Loads.{oneUpAt, oneUp, Below, rounded, roundedAt}
 use Rattle.rows.proofs.Written.{links-are, Written}
 
 -- what is at most v at each link is so at link x
@@ -41,6 +41,10 @@ one-up n a b i C₀ C l e y =
     by-le a x
     (λ g. by-le x b (λ h. rw (le-leb a x g, le-leb x b h) (y .done x g (omega arith))) (λ h. rw (le-leb a x g, lt-leb x b h) (y .late x (omega arith))))
     (λ g. rw (lt-leb a x g) (y .early x g)))
+
+-- how many of the first j circuits use link x
+pub loadTo : List Circuit → ℕ → ℕ → ℕ
+loadTo cs j x = count (λ d. uses (circuit cs d) x) j
 
 -- before the first circuit
 pub load-none : (cs : List Circuit) (n : ℕ) (C : List ℕ) → C ≡ replicate n 0 → C ≡ each (loadTo cs 0) 1 n

@@ -1,16 +1,17 @@
--- What the phases ask of a file. The tests leave this, and more. What a reader must believe.
+-- What the phases ask of a file: what the tests leave. What a reader must believe.
 -- Assumes nothing.
 use Prim.Native.Nat.{ℕ, _*_, _≤_}
 use mathlib.Core.Path.{_≡_}
 use mathlib.Core.List.{List}
 use lib.ListN.{length}
 use Rattle.records.specs.Records.{circuitsIn}
-use Rattle.method.specs.Line.{Lies}
+use Rattle.method.specs.Line.{Lies, Distinct}
 
--- m circuits, each on the line of n links, and w wavelengths; 80 is the most that a grid to come allows
+-- m circuits, each on the line of n links, no number twice, and w wavelengths; 80 is the most that a grid to come allows
 pub record Accepted (n w m : ℕ) (s : List ℕ) : Type 0 where
   pub line : n ≤ 512
   pub waves : (1 ≤ w) × (w ≤ 80)
   pub few : m ≤ 2048
   pub whole : length s ≡ 8 * m
   pub lies : Lies n (circuitsIn m s)
+  pub distinct : Distinct (circuitsIn m s)

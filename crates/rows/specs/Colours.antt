@@ -1,29 +1,38 @@
--- What the loops over colours compute. Assumes nothing.
-use Prim.Native.Nat.{ℕ, _+_, _-_, _*_, _≤_, _<_}
+-- The colours of a row, as the last rows of the links tell them. Assumes nothing.
+use Prim.Native.Nat.{ℕ, _+_, _-_, _≤_, _<_}
 use mathlib.Core.Path.{_≡_}
 use mathlib.Core.Logic.{_≢_}
-use mathlib.Core.Bool.{Bool, cond, not, _&&_}
+use mathlib.Core.Bool.{Bool, cond, _&&_}
 use mathlib.Core.List.{List}
-use lib.ListN.{drop}
 use lib.Dec.{leb, ltb, eqb}
-use Rattle.method.specs.Sheet.{at, red, blue, open', runFrom, runPast, paint}
+use Rattle.basics.specs.Tools.{each}
+use Rattle.method.specs.Sheet.{State, at, red, blue, taken, open', runFrom, runPast, paint}
 use Rattle.rows.specs.declared.colours.Run.{Run}
 
--- a link's colour as row k begins, from its c(i) and its colour v at the end of the row before; `last` is the sheet's last row, M × w
-unfoldable pub freshColour : ℕ → ℕ → ℕ → ℕ → ℕ → ℕ
-freshColour w last k c v = cond (leb (k + c * w) last) red (cond (eqb v blue) blue open')
+-- the last row of a blue link
+abbrev pub blueRow : ℕ
+blueRow = 65535
 
--- the same of link x, where the cells are n needs and then n colours
-unfoldable pub freshAt : ℕ → ℕ → ℕ → ℕ → List ℕ → ℕ → ℕ
-freshAt n w last k C x = freshColour w last k (at C x) (at (drop n C) x)
+-- the colour in row k of a link with last row d: open if that row is over, else blue or not; red and taken are not told apart
+unfoldable pub shownAs : ℕ → ℕ → ℕ
+shownAs k d = cond (ltb d k) open' (cond (eqb d blueRow) blue red)
 
--- whether link x has this colour
-unfoldable pub isColour : List ℕ → ℕ → ℕ → Bool
-isColour K colour x = eqb (at K x) colour
+-- the colours in row k of n links with last rows D
+unfoldable pub shown : ℕ → ℕ → List ℕ → List ℕ
+shown n k D = each (λ x. shownAs k (at D x)) 1 n
 
--- whether link x has another colour
-unfoldable pub isNot : List ℕ → ℕ → ℕ → Bool
-isNot K colour x = not (eqb (at K x) colour)
+-- colours in which taken links count as red
+unfoldable pub alike : ℕ → List ℕ → List ℕ
+alike n K = each (λ x. cond (eqb (at K x) taken) red (at K x)) 1 n
+
+-- a state in which taken links count as red: what may be told from last rows
+abbrev pub plain : ℕ → State → State
+plain n s = record { colours = alike n (s .colours); rows = s .rows }
+
+-- how row k may move last rows: one that is not over stays, and one that is over becomes k at most, or blue
+pub record Moved (n k : ℕ) (D D' : List ℕ) : Type 0 where
+  pub stays : (x : ℕ) → 1 ≤ x → x ≤ n → k ≤ at D x → at D' x ≡ at D x
+  pub low : (x : ℕ) → 1 ≤ x → x ≤ n → at D x < k → at D' x ≢ blueRow → at D' x ≤ k
 
 -- r is the first link such that it and all links from it to before l are blue
 pub record BlueTo (K : List ℕ) (l r : ℕ) : Type 0 where
@@ -46,6 +55,6 @@ pub record Around (n : ℕ) (K : List ℕ) (run : Run) : Type 0 where
 unfoldable pub between : ℕ → ℕ → ℕ → Bool
 between start past x = leb start x && ltb x past
 
--- the links from `start` to before `past` get a colour
+-- the links from `start` to before `past` get a last row
 abbrev pub painted : ℕ → ℕ → ℕ → ℕ → List ℕ → List ℕ
-painted n start past colour K = paint n (between start past) colour K
+painted n start past v D = paint n (between start past) v D

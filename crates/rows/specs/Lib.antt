@@ -1,6 +1,6 @@
 pub mod Accepted
+pub mod Colours
 pub mod Area
 pub mod Loads
-pub mod Colours
 pub mod Choice
 pub mod Filled

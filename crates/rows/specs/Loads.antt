@@ -3,9 +3,7 @@ use Prim.Native.Nat.{ℕ, _+_, _-_, _/_, _≤_}
 use mathlib.Core.Bool.{cond, _&&_}
 use mathlib.Core.List.{List}
 use lib.Dec.{leb}
-use Rattle.basics.specs.Tools.{count, each}
-use Rattle.records.specs.declared.Circuit.{Circuit}
-use Rattle.method.specs.Line.{circuit, uses}
+use Rattle.basics.specs.Tools.{each}
 use Rattle.method.specs.Sheet.{at}
 
 -- the cell of link x, one up if x is one of links a to b
@@ -19,10 +17,6 @@ oneUp n a b C = each (oneUpAt a b C) 1 n
 -- each link's cell is at most v
 unfoldable pub Below : ℕ → List ℕ → Type 0
 Below v C = (x : ℕ) → at C x ≤ v
-
--- how many of the first j circuits use link x
-unfoldable pub loadTo : List Circuit → ℕ → ℕ → ℕ
-loadTo cs j x = count (λ d. uses (circuit cs d) x) j
 
 -- a load over w, rounded up
 abbrev pub rounded : ℕ → ℕ → ℕ

@@ -1,21 +1,14 @@
 // The load of each link, and c(i), in the first n cells of the work area: link i has cell i - 1.
-ghost use Prim.Native.Nat.{_*_, _<_, _≤_, max};
+ghost use Prim.Native.Nat.{_-_, _*_, _≤_, max};
 ghost use mathlib.Core.Path.{_≡_};
-ghost use lib.ListN.{length, replicate};
+ghost use lib.ListN.{length, take, drop, replicate};
 ghost use Rattle.basics.specs.Tools.{each, top};
 ghost use Rattle.method.specs.Line.{Lies};
-ghost use Rattle.method.specs.Sheet.{load, need, most};
+ghost use Rattle.method.specs.Sheet.{at, load, need, most};
 ghost use Rattle.records.specs.Bytes.{cellsOf};
 ghost use Rattle.records.specs.Records.{circuitsIn};
 ghost use Rattle.rows.specs.Accepted.{Accepted};
 ghost use Rattle.rows.specs.Loads.{oneUp, Below, rounded, roundedAt};
-
-// A cell as an index.
-pub fn wide(x: u16) -> usize
-    ensures { λ r. ⌜ (r ≡ x) × (r < 65536) ⌝ }
-{
-    x as usize
-}
 
 // Links a to b one up.
 fn add_one(cells: &mut [u8], n: usize, a: usize, b: usize)
@@ -38,7 +31,12 @@ fn count_loads(circuits: &[u8], m: usize, cells: &mut [u8], n: usize)
 {
     for j in 0..m {
         let c = records::circuit_at(circuits, j);
-        add_one(cells, n, wide(c.first), wide(c.last));
+        add_one(
+            cells,
+            n,
+            records::numbers::index(c.first),
+            records::numbers::index(c.last),
+        );
     }
 }
 
@@ -47,7 +45,7 @@ fn layers(load: u16, w: usize) -> u16
     requires { ⌜ (1 ≤ w) × (w ≤ 80) × (load ≤ 2048) ⌝ }
     ensures { λ r. ⌜ r ≡ rounded w load ⌝ }
 {
-    let c = (wide(load) + (w - 1)) / w;
+    let c = (records::numbers::index(load) + (w - 1)) / w;
     c as u16
 }
 
@@ -82,4 +80,16 @@ pub fn count_needs(circuits: &[u8], m: usize, cells: &mut [u8], n: usize, w: usi
 {
     count_loads(circuits, m, cells, n);
     count_layers(cells, n, w)
+}
+
+// The last red row of each link, in the second n cells: (M - c(i)) * w.
+pub fn last_reds(cells: &mut [u8], n: usize, w: usize, most: usize)
+    requires { ⌜ (length (now cells) ≡ 4 * n) × (n ≤ 512) × (most * w ≤ 65534) × Below most (take n (cellsOf (now cells))) ⌝ }
+    ensures { λ _. ⌜ (length (now (cells .exit)) ≡ 4 * n) × (take n (cellsOf (now (cells .exit))) ≡ take n (cellsOf (now (cells .entry)))) × (drop n (cellsOf (now (cells .exit))) ≡ each (λ x. (most - at (cellsOf (now (cells .entry))) x) * w) 1 n) ⌝ }
+{
+    for i in 0..n {
+        let c = records::cells::get(cells, i);
+        let r = (most - records::numbers::index(c)) * w;
+        records::cells::put(cells, n + i, r as u16);
+    }
 }

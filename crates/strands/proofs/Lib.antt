@@ -2,16 +2,11 @@ pub mod Turns
 pub mod Walk
 pub mod Written
 pub mod Going
-pub mod Starts
-pub mod Finds
+pub mod Layering
 pub mod Files
-pub mod Choices
 pub mod Same
-pub mod Given
 pub mod Places
 pub mod Assigned
 pub mod Readies
 pub mod Laying
-pub mod Handed
-pub mod Pinned
 pub mod Listing

@@ -9,8 +9,8 @@ use Rattle.method.specs.Fibres.{join, runs, layerOf, wavelengthOf, twice, inLay
 use Rattle.method.specs.Line.{circuit, uses, overlap, over, spanLength, total}
 use Rattle.method.specs.Sheet.{load, need, most, at, runFrom, runPast, inRun, fits, paint, chosen, act, step, steps, redTo, fresh, begun, row, sheet, rows}
 use Rattle.strands.specs.Lists.{fibreRecord, fibreRecords, assignmentRecord, assignmentRecords}
-use Rattle.strands.specs.Area.{rowsIn, Ready}
-use Rattle.strands.specs.Laid.{halves, countsOf, fibreList, assignmentList}
+use Rattle.rows.specs.Filled.{Filled}
+use Rattle.strands.specs.Laid.{countsOf, fibreList, assignmentList}
 
 -- the four circuits
 file : List ℕ
@@ -36,11 +36,6 @@ area : List ℕ
 area = encode (1 ∷ 2 ∷ 1 ∷ 1 ∷ 1 ∷ 2 ∷ 1 ∷ 2 ∷ 2 ∷ 2 ∷ 4 ∷ 3 ∷ 3 ∷ 4 ∷ 0 ∷ 0 ∷ 0 ∷ 0 ∷ [])
 
 -- phase two may start on it
-ready-listed : Ready 5 2 4 2 file area
-unfolding file area encode cellsOf rowsIn circuitsIn count any every seek each sum top better lowest uses overlap at circuit load need runFrom runPast inRun fits paint chosen act step steps most redTo fresh begun row sheet rows
-ready-listed = record { long = refl; most-is = refl; needs = refl; rows = refl }
-
--- the halves: 20 has the second fibre
-halves-listed : halves 5 2 (circuitsIn 4 file) ≡ 1 ∷ 2 ∷ 1 ∷ 1 ∷ []
-unfolding file halves circuitsIn count any every seek each sum top better lowest uses overlap at circuit load need runFrom runPast inRun fits paint chosen act step steps most redTo fresh begun row sheet rows join runs spanLength over total find twice layerOf wavelengthOf together onFirstBy onFirst inLayer layer layers pairs fibres floor pairOf given assignments
-halves-listed = refl
+filled-listed : Filled 5 2 4 file area
+unfolding file area encode cellsOf circuitsIn count any every seek each sum top better lowest uses overlap at circuit load need runFrom runPast inRun fits paint chosen act step steps most redTo fresh begun row sheet rows
+filled-listed = record { sized = refl; needs = refl; rows = refl }

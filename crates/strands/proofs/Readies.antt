@@ -1,117 +1,119 @@
--- The work area: what phase one leaves, and what it is after the halves are written. Assumes nothing.
-use Prim.Native.Nat.{ℕ, zero, suc, _+_, _-_, _*_, _≤_, _<_}
+-- What phase one leaves is enough for phase two, and what the work area and the fibre list are when the assignments are written. Assumes nothing.
+use Prim.Native.Nat.{ℕ, suc, _+_, _*_, _≤_}
 use mathlib.Core.Bool.{Bool, cond}
 use mathlib.Core.Path.{_≡_, sym, ap, _∙_}
 use mathlib.Core.List.{List, _++_}
 use native.Mathlib.Omega.{arith}
-use native.Mathlib.Nat.{mul-le-mul-right}
-use lib.Seq.{ext-getD, getD-take, length-take-le}
-use lib.ListN.{length, getD, take, length-append, List·getD-append}
-use Rattle.basics.specs.Tools.{each}
-use Rattle.basics.proofs.Bools.{by-le}
-use Rattle.basics.proofs.Tables.{each-same, length-each, getD-each}
+use lib.ListN.{length, getD}
+use lib.Seq.{getD-drop}
+use Rattle.basics.specs.Tools.{part}
+use Rattle.basics.proofs.Counts.{le-top}
+use Rattle.basics.proofs.Tables.{getD-part, part-kept}
 use Rattle.records.specs.Bytes.{cellsOf}
 use Rattle.records.specs.Records.{circuitsIn}
-use Rattle.records.proofs.CellLaws.{length-cellsOf}
-use Rattle.records.proofs.Parts.{getD-right}
+use Rattle.records.specs.declared.Circuit.{Circuit}
 use Rattle.records.proofs.Files.{length-circuitsIn}
-use Rattle.method.specs.Fibres.{onFirst, pairOf, pairs}
+use Rattle.method.specs.Fibres.{layers, onFirst, pairs, twice}
+use Rattle.method.specs.Line.{noFibre}
 use Rattle.method.specs.Sheet.{at, most, need, rows}
 use Rattle.method.proofs.Few.{few-pairs}
 use Rattle.method.proofs.Links.{lies-there}
-use Rattle.method.proofs.Placed.{few-rows}
+use Rattle.method.proofs.Placed.{after, few-rows}
 use Rattle.method.proofs.ValidPlan.{first-any-run}
+use Rattle.halves.specs.Halves.{FewRows, OneEnd, Halved}
 use Rattle.rows.specs.Accepted.{Accepted}
-use Rattle.strands.specs.Layers.{layersBy}
-use Rattle.strands.specs.Halves.{halvesIn}
-use Rattle.strands.specs.Area.{rowsIn, Ready, Halved}
-use Rattle.strands.specs.Laid.{halves}
+use Rattle.rows.specs.Filled.{Filled}
+use Rattle.strands.specs.Layers.{Fit, Spared, layersBy}
+use Rattle.strands.specs.Lists.{fibreRecords}
+use Rattle.strands.specs.Area.{Marked, Strung}
+use Rattle.method.proofs.Given.{ends-differ, most-few}
 use Rattle.strands.proofs.Same.{needs-at, layers-same}
-use Rattle.strands.proofs.Choices.{halves-are, halves-keep}
+use Rattle.strands.proofs.Written.{last-read}
 
--- cells that agree on the line
-at-same : (cells cells′ : List ℕ) (n : ℕ) → ((k : ℕ) → k < n → getD cells k 0 ≡ getD cells′ k 0) → (x : ℕ) → 1 ≤ x → x < 1 + n → at cells x ≡ at cells′ x
-unfolding at
-at-same cells cells′ n e zero a b = absurd (omega arith)
-at-same cells cells′ n e (suc x) a b = e x (omega arith)
+module _ (n w m top : ℕ) (s b : List ℕ) (acc : Accepted n w m s) (fil : Filled n w m s b) (t : top ≡ most n w (circuitsIn m s)) where
+  -- the circuits
+  abbrev cs : List Circuit
+  cs = circuitsIn m s
 
--- THE WORK AREA AFTER THE HALVES
-module _ (n w m top : ℕ) (s b b′ : List ℕ) (acc : Accepted n w m s) (rdy : Ready n w m top s b) (e : cellsOf b′ ≡ halvesIn (circuitsIn m s) n m (cellsOf b)) (l : length b′ ≡ length b) where
-  -- there are cells for the halves
-  cells-long : 2 * n + 2 * m ≤ length (cellsOf b)
-  cells-long = omega (arith, length-cellsOf b (2 * n + 2 * m) (let g = rdy .long in omega arith))
+  -- the cells
+  abbrev C : List ℕ
+  C = cellsOf b
 
-  -- the other cells are as they were
-  keeps : (k : ℕ) → k < 2 * n + m → getD (cellsOf b′) k 0 ≡ getD (cellsOf b) k 0
-  keeps k h = ap (λ c. getD c k 0) e ∙ halves-keep s n m (cellsOf b) (acc .lies) cells-long k h
+  -- c(i) of each link
+  pub needs-are : (i : ℕ) → 1 ≤ i → i ≤ n → at C i ≡ need w cs i
+  needs-are = needs-at C (need w cs) n (fil .needs)
 
-  -- so are the rows
-  rows-keep : rowsIn n m (cellsOf b′) ≡ rowsIn n m (cellsOf b)
-  unfolding rowsIn
-  rows-keep = each-same (λ j. getD (cellsOf b′) (2 * n + j) 0) (λ j. getD (cellsOf b) (2 * n + j) 0) 0 m (λ x u v. keeps (2 * n + x) (omega arith))
+  -- M is at most the number of circuits
+  pub top-few : top ≤ m
+  top-few = omega (arith, most-few n w cs (acc .waves .0), length-circuitsIn m s)
 
-  -- so phase two may go on
-  pub ready-still : Ready n w m top s b′
-  ready-still =
-      record {
-        long = l ∙ rdy .long;
-        most-is = rdy .most-is;
-        needs = each-same (at (cellsOf b′)) (at (cellsOf b)) 1 n (at-same (cellsOf b′) (cellsOf b) n (λ k h. keeps k (omega arith))) ∙ rdy .needs;
-        rows = rows-keep ∙ rdy .rows;
-      }
+  -- each c(i) is a number of two bytes
+  pub fit-first : Fit n C
+  unfolding Fit
+  fit-first k h =
+      let a : at C (suc k) ≡ need w cs (suc k) = needs-are (suc k) (omega arith) (omega arith) in
+      let z : getD C k 0 ≡ at C (suc k) = (unfold at in λ i. getD C k 0) in
+      let f = acc .few in
+      let g = top-few in
+      let q : need w cs (suc k) ≤ most n w cs = (unfold most in le-top (need w cs) n (suc k) (omega arith) (omega arith)) in
+      omega arith
 
-  -- and each circuit has its half
-  pub halved-now : Halved n w m s b′
-  halved-now =
-      record {
-        halves = λ j h.
-            ap (λ c. getD c (2 * n + m + j) 0) e ∙ halves-are s n m (cellsOf b) (acc .lies) cells-long j h ∙ ap (λ rs. cond (onFirst (circuitsIn m s) rs (λ d. 0) j) 1 2) (rdy .rows)
-            ∙ ap (λ (v : Bool). cond v 1 2) (sym (first-any-run n w (circuitsIn m s) (acc .lies) (acc .waves .0) j (omega (arith, length-circuitsIn m s))));
-      }
+  -- the layers by c(i) are the method's
+  pub layers-are : (h : ℕ) → layersBy (at C) n top h ≡ layers n w cs h
+  layers-are h = ap (λ y. layersBy (at C) n y h) t ∙ layers-same (at C) n w cs needs-are h
 
-  -- the cells are those of before, and then the halves
-  pub halves-after : cellsOf b′ ≡ take (2 * n + m) (cellsOf b) ++ halves n w (circuitsIn m s)
-  unfolding halves
-  halves-after =
-      let f : ℕ → ℕ = λ j. cond (onFirst (circuitsIn m s) (rows n w (circuitsIn m s)) (pairOf n w (circuitsIn m s) (rows n w (circuitsIn m s))) j) 1 2 in
-      let old : List ℕ = take (2 * n + m) (cellsOf b) in
-      let new : List ℕ = each f 0 (length (circuitsIn m s)) in
-      let k = length-circuitsIn m s in
-      let lo : length old ≡ 2 * n + m = length-take-le (2 * n + m) (cellsOf b) (let c = cells-long in omega arith) in
-      let ln : length new ≡ m = length-each f 0 (length (circuitsIn m s)) ∙ k in
-      let lb : length (cellsOf b′) ≡ 2 * n + 2 * m = length-cellsOf b′ (2 * n + 2 * m) (let g = rdy .long in omega arith) in
-      let la : length (old ++ new) ≡ 2 * n + 2 * m = length-append old new ∙ omega arith in
-      ext-getD 0 (cellsOf b′) (old ++ new) (lb ∙ sym la)
-      (λ i h.
-      by-le (2 * n + m) i
-      (λ u.
-      let j : ℕ = i - (2 * n + m) in
-      let z : i ≡ 2 * n + m + j = omega arith in
-      let y : j < m = omega arith in
-      let o : 0 + j ≡ j = omega arith in
-      ap (λ x. getD (cellsOf b′) x 0) z ∙ halved-now .halves j y
-      ∙ sym (ap (λ x. getD (old ++ new) x 0) z ∙ getD-right old new (2 * n + m) j lo ∙ getD-each f 0 (length (circuitsIn m s)) j 0 (omega arith) ∙ ap f o))
-      (λ u. keeps i u ∙ sym (List·getD-append old new 0 i (omega arith) ∙ getD-take (2 * n + m) (cellsOf b) i 0 u)))
-
--- THE FIBRES: those of the method, and there is room for them
-module _ (n w m top : ℕ) (s b : List ℕ) (acc : Accepted n w m s) (rdy : Ready n w m top s b) where
-  -- the layers by c(i) are the method's pairs
-  pub pairs-are : layersBy (at (cellsOf b)) n top top ≡ pairs n w (circuitsIn m s)
+  -- and all of them its pairs
+  pub pairs-are : layersBy (at C) n top top ≡ pairs n w cs
   unfolding pairs
-  pairs-are =
-      ap (λ t. layersBy (at (cellsOf b)) n t t) (rdy .most-is)
-      ∙ layers-same (at (cellsOf b)) n w (circuitsIn m s) (needs-at (at (cellsOf b)) (need w (circuitsIn m s)) n (rdy .needs)) (most n w (circuitsIn m s))
+  pairs-are = layers-are top ∙ ap (layers n w cs) t
 
   -- at most one pair for each circuit
-  pub pairs-few : length (layersBy (at (cellsOf b)) n top top) ≤ m
-  pairs-few = omega (arith, ap length pairs-are, few-pairs n w (circuitsIn m s) (lies-there n (circuitsIn m s) (acc .lies)) (acc .waves .0), length-circuitsIn m s)
+  pub pairs-few : length (layersBy (at C) n top top) ≤ m
+  pairs-few = omega (arith, ap length pairs-are, few-pairs n w cs (lies-there n cs (acc .lies)) (acc .waves .0), length-circuitsIn m s)
 
-  -- M is small
-  pub top-small : top ≤ 2048
-  top-small =
-      let r = few-rows n w (circuitsIn m s) (acc .waves .0) in
-      let k = length-circuitsIn m s in
-      let f = acc .few in
-      let v = acc .waves .0 in
-      let t = rdy .most-is in
-      by-le (most n w (circuitsIn m s)) 2048 (λ h. omega arith) (λ h. absurd (omega (arith, mul-le-mul-right w h)))
+  -- AFTER THE FIBRES
+  module _ (C₁ : List ℕ) (sp : Spared n m top top C C₁) where
+    -- the rows are still there
+    rows-are : part (2 * n) m C₁ ≡ rows n w cs
+    rows-are = part-kept (2 * n) m C₁ C (sp .kept) ∙ fil .rows
+
+    -- the rows are few
+    pub few-there : FewRows n m C₁
+    unfolding FewRows
+    few-there j h =
+        let r : getD (part (2 * n) m C₁) j 0 ≡ getD (rows n w cs) j 0 = ap (λ l. getD l j 0) rows-are in
+        let k : getD (rows n w cs) j 0 ≤ most n w cs * w = (unfold rows in (after n w cs (lies-there n cs (acc .lies)) (most n w cs * w)) .marked j) in
+        let f = acc .few in
+        let v = acc .waves .1 in
+        omega (arith, few-rows n w cs (acc .waves .0), length-circuitsIn m s)
+
+    -- no two circuits of a row end at the same link
+    pub one-end : OneEnd n m cs C₁
+    unfolding OneEnd
+    one-end i j a b r e =
+        let k = length-circuitsIn m s in
+        ends-differ n w cs (acc .lies) (acc .waves .0) i j (omega arith) (omega arith) (sym (ap (λ l. getD l i 0) rows-are) ∙ r ∙ ap (λ l. getD l j 0) rows-are) e
+
+    -- the work area when the halves are chosen
+    pub marked : (b₂ : List ℕ) → length b₂ ≡ 4 * n + 4 * m → Halved n m cs C₁ (cellsOf b₂) → Marked n w m s b₂
+    marked b₂ long hv =
+        record {
+          long = long;
+          halves = λ j h.
+              sym (getD-part (2 * n) m (cellsOf b₂) j 0 h) ∙ hv .halves j h
+              ∙ ap (λ l. 2 * getD l j 0 + cond (onFirst cs l (λ d. 0) j) 0 1) rows-are
+              ∙ ap (λ (v : Bool). 2 * getD (rows n w cs) j 0 + cond v 0 1) (sym (first-any-run n w cs (acc .lies) (acc .waves .0) j (omega (arith, length-circuitsIn m s))));
+          starts = λ h l.
+              sym (getD-drop (2 * n + m) (cellsOf b₂) h 0) ∙ ap (λ c. getD c h 0) (hv .spare) ∙ getD-drop (2 * n + m) C₁ h 0 ∙ sp .starts h (omega arith)
+              ∙ ap length (layers-are h);
+        }
+
+  -- THE FIBRE LIST
+  pub strung : (from many : ℕ) (list rest : List ℕ) → many ≡ length (layersBy (at C) n top top) → list ≡ fibreRecords from (twice (layersBy (at C) n top top)) ++ rest
+      → 16 * m ≤ length list → Strung n w m many s list
+  strung from many list rest k e r =
+      record {
+        room = (let f = pairs-few in omega arith);
+        many-are = k ∙ ap length pairs-are;
+        lasts = λ i h. last-read from (layersBy (at C) n top top) list rest i e (omega arith) ∙ ap (λ fs. (getD fs i noFibre) .last) pairs-are;
+      }

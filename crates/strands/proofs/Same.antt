@@ -4,15 +4,17 @@ use mathlib.Core.Bool.{Bool}
 use mathlib.Core.Path.{_≡_, refl, sym, ap, ap₂, _∙_}
 use mathlib.Core.List.{List, _++_}
 use native.Mathlib.Omega.{arith}
+use lib.ListN.{getD, take}
+use lib.Seq.{getD-take}
 use lib.Dec.{leb}
 use Rattle.basics.specs.Tools.{each, sum}
 use Rattle.basics.proofs.Sums.{sum-eq}
+use Rattle.basics.proofs.Tables.{getD-each}
 use Rattle.records.specs.declared.Circuit.{Circuit}
 use Rattle.method.specs.Fibres.{floor, inLayer, layer, layers, runs}
 use Rattle.method.specs.Line.{Fibre}
 use Rattle.method.specs.Sheet.{at, most, need}
-use Rattle.method.proofs.Colours.{at-each}
-use Rattle.strands.specs.Layers.{reaches, layerBy, layersBy}
+use Rattle.strands.specs.Layers.{Fit, reaches, layerBy, layersBy}
 
 -- runs of the same links are the same
 runs-same : (h : ℕ) (p q : ℕ → Bool) (i k : ℕ) → ((x : ℕ) → i ≤ x → x < i + k → p x ≡ q x) → runs h p i k ≡ runs h q i k
@@ -40,6 +42,25 @@ module _ (f : ℕ → ℕ) (n w : ℕ) (cs : List Circuit) (same : (i : ℕ) →
   unfolding floor
   floor-same = sum-eq f (need w cs) n same
 
--- two tables over the links are the same at each link
-pub needs-at : (f g : ℕ → ℕ) (n : ℕ) → each f 1 n ≡ each g 1 n → (i : ℕ) → 1 ≤ i → i ≤ n → f i ≡ g i
-needs-at f g n e i a b = sym (at-each f n i a b) ∙ ap (λ cells. at cells i) e ∙ at-each g n i a b
+-- links whose c(i) agree make the same layer
+pub layer-agrees : (f g : ℕ → ℕ) (n top h : ℕ) → ((i : ℕ) → 1 ≤ i → i ≤ n → f i ≡ g i) → layerBy f n top h ≡ layerBy g n top h
+unfolding layerBy reaches
+layer-agrees f g n top h same = runs-same h (reaches f (top + 1 - h)) (reaches g (top + 1 - h)) 1 n (λ x a b. ap (leb (top + 1 - h)) (same x a (omega arith)))
+
+-- the first n cells are a table over the links
+pub needs-at : (C : List ℕ) (g : ℕ → ℕ) (n : ℕ) → take n C ≡ each g 1 n → (i : ℕ) → 1 ≤ i → i ≤ n → at C i ≡ g i
+unfolding at
+needs-at C g n e zero a b = absurd (omega arith)
+needs-at C g n e (suc i) a b =
+    sym (getD-take n C i 0 (omega arith)) ∙ ap (λ l. getD l i 0) e ∙ getD-each g 1 n i 0 (omega arith) ∙ ap g (let z : 1 + i ≡ suc i = omega arith in z)
+
+-- cells that are kept are kept at each link
+pub at-kept : (C C' : List ℕ) (n k : ℕ) → n ≤ k → take k C' ≡ take k C → (i : ℕ) → 1 ≤ i → i ≤ n → at C' i ≡ at C i
+unfolding at
+at-kept C C' n k h e zero a b = absurd (omega arith)
+at-kept C C' n k h e (suc i) a b = sym (getD-take k C' i 0 (omega arith)) ∙ ap (λ l. getD l i 0) e ∙ getD-take k C i 0 (omega arith)
+
+-- and still are numbers of two bytes
+pub fit-kept : (C C' : List ℕ) (n k : ℕ) → n ≤ k → take k C' ≡ take k C → Fit n C → Fit n C'
+unfolding Fit
+fit-kept C C' n k h e f i b = omega (arith, sym (getD-take k C' i 0 (omega arith)) ∙ ap (λ l. getD l i 0) e ∙ getD-take k C i 0 (omega arith), f i b)

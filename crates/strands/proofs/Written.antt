@@ -1,13 +1,16 @@
 -- What the pairs that are written one after the other leave in the fibre list. Assumes nothing.
-use Prim.Native.Nat.{ℕ, suc, _+_, _*_}
+use Prim.Native.Nat.{ℕ, zero, suc, _+_, _*_, _<_}
 use mathlib.Core.Path.{_≡_, refl, sym, ap, _∙_}
 use mathlib.Core.List.{List, [], _∷_, _++_, append-assoc, append-nil}
 use native.Mathlib.Omega.{arith}
-use lib.ListN.{length, drop}
-use Rattle.records.specs.Records.{putRecord}
+use lib.ListN.{length, getD, take, drop}
+use lib.Seq.{drop-drop}
+use Rattle.records.specs.Records.{fibreOf, putRecord, recordAt}
+use Rattle.records.proofs.Inverse.{le16-bytes16}
 use Rattle.records.proofs.Series.{putRecord-more, length-more}
 use Rattle.method.specs.Fibres.{twice}
-use Rattle.method.specs.Line.{Fibre}
+use Rattle.method.specs.Line.{Fibre, noFibre}
+use Rattle.method.proofs.FibreLists.{length-twice, twice-first}
 use Rattle.strands.specs.Layers.{putFibre, putPair, putPairs, layerBy, layersBy}
 use Rattle.strands.specs.Lists.{fibreRecord, fibreRecords}
 use Rattle.strands.proofs.Walk.{layers-more}
@@ -67,3 +70,23 @@ layers-turn f n top from h many out₀ out out′ m o q =
     q ∙ (λ i. putPairs from (e i) (layerBy f n top (h + 1)) (o i))
     ∙ sym (putPairs-append from 0 (layersBy f n top h) (layerBy f n top (h + 1)) out₀)
     ∙ ap (λ fs. putPairs from 0 fs out₀) (sym (layers-more f n top h))
+
+-- record i of the fibre list is fibre i, written
+record-at : (from : ℕ) (fs : List Fibre) (rest : List ℕ) (i : ℕ) → i < length fs → recordAt (fibreRecords from fs ++ rest) i ≡ fibreRecord (from + i + 1) (getD fs i noFibre)
+unfolding fibreRecords fibreRecord
+record-at from [] rest i h = absurd (omega arith)
+record-at from (f ∷ fs) rest zero h = let z : from + 0 + 1 ≡ from + 1 = omega arith in rw z refl
+record-at from (f ∷ fs) rest (suc i) h =
+    let k : 8 * suc i ≡ 8 + 8 * i = omega arith in
+    let z : from + 1 + i + 1 ≡ from + suc i + 1 = omega arith in
+    let whole : List ℕ = fibreRecords from (f ∷ fs) ++ rest in
+    ap (λ (x : ℕ). take 8 (drop x whole)) k ∙ ap (take 8) (sym (drop-drop (8 * i) 8 whole)) ∙ record-at (from + 1) fs rest i (omega arith)
+    ∙ ap (λ (x : ℕ). fibreRecord x (getD fs i noFibre)) z
+
+-- so the last link of pair i is read from record 2 i
+pub last-read : (from : ℕ) (fs : List Fibre) (list rest : List ℕ) (i : ℕ) → list ≡ fibreRecords from (twice fs) ++ rest → i < length fs
+    → (fibreOf (recordAt list (2 * i))) .last ≡ (getD fs i noFibre) .last
+unfolding fibreRecord
+last-read from fs list rest i e h =
+    ap (λ l. (fibreOf (recordAt l (2 * i))) .last) e ∙ ap (λ r. (fibreOf r) .last) (record-at from (twice fs) rest (2 * i) (omega (arith, length-twice fs)))
+    ∙ le16-bytes16 ((getD (twice fs) (2 * i) noFibre) .last) ∙ ap (λ f. f .last) (twice-first fs i)

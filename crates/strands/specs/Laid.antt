@@ -1,17 +1,13 @@
 -- What phase two leaves. What a reader must believe.
 -- Assumes nothing.
-use Prim.Native.Nat.{ℕ, _+_, _*_}
-use mathlib.Core.Bool.{cond}
+use Prim.Native.Nat.{ℕ, _*_}
 use mathlib.Core.Path.{_≡_}
 use mathlib.Core.List.{List, _++_}
-use lib.ListN.{length, take, drop}
-use Rattle.basics.specs.Tools.{each}
-use Rattle.records.specs.Bytes.{cellsOf}
+use lib.ListN.{length, drop}
 use Rattle.records.specs.Records.{circuitsIn}
 use Rattle.records.specs.declared.Circuit.{Circuit}
-use Rattle.method.specs.Fibres.{assignments, fibres, floor, onFirst, pairOf}
+use Rattle.method.specs.Fibres.{assignments, fibres, floor}
 use Rattle.method.specs.Line.{total}
-use Rattle.method.specs.Sheet.{rows}
 use Rattle.strands.specs.declared.Counts.{Counts}
 use Rattle.strands.specs.Lists.{fibreRecords, assignmentRecords}
 
@@ -27,14 +23,9 @@ fibreList n w from cs old = fibreRecords from (fibres n w cs) ++ drop (8 * lengt
 unfoldable pub assignmentList : ℕ → ℕ → ℕ → List Circuit → List ℕ → List ℕ
 assignmentList n w from cs old = assignmentRecords from cs (assignments n w cs) ++ drop (8 * length cs) old
 
--- the half of each circuit: 1 for the first fibre of the pair, 2 for the second
-unfoldable pub halves : ℕ → ℕ → List Circuit → List ℕ
-halves n w cs = each (λ j. cond (onFirst cs (rows n w cs) (pairOf n w cs (rows n w cs)) j) 1 2) 0 (length cs)
-
--- the answer, and every byte of the three lent areas: in the work area the half of each circuit stands from cell 2n + m on, and all else is as it was
+-- the answer and the two lists; of the work area only the length, since its cells are used up
 pub record Laid (n w m from : ℕ) (s : List ℕ) (counts : Counts) (fibres₀ fibres₁ assigns₀ assigns₁ work₀ work₁ : List ℕ) : Type 0 where
   pub counted : counts ≡ countsOf n w (circuitsIn m s)
   pub listed : fibres₁ ≡ fibreList n w from (circuitsIn m s) fibres₀
   pub assigned : assigns₁ ≡ assignmentList n w from (circuitsIn m s) assigns₀
   pub sized : length work₁ ≡ length work₀
-  pub kept : cellsOf work₁ ≡ take (2 * n + m) (cellsOf work₀) ++ halves n w (circuitsIn m s)

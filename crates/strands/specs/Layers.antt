@@ -1,13 +1,20 @@
 -- The layers by c(i) alone: f i is c(i), and the layers are 1 to `top`. These follow `layer` and `layers` of the method, and how their pairs are written.
 -- Assumes nothing.
-use Prim.Native.Nat.{ℕ, zero, suc, _+_, _-_, max}
-use mathlib.Core.Bool.{Bool, cond, not, _&&_}
+use Prim.Native.Nat.{ℕ, zero, suc, _+_, _-_, _*_, _≤_, _<_}
+use mathlib.Core.Bool.{Bool}
 use mathlib.Core.List.{List, [], _∷_, _++_}
+use mathlib.Core.Path.{_≡_}
+use lib.ListN.{length, getD, take}
 use lib.Dec.{leb}
 use Rattle.records.specs.Records.{putRecord}
 use Rattle.method.specs.Fibres.{runs}
 use Rattle.method.specs.Line.{Fibre}
+use Rattle.method.specs.Sheet.{at}
 use Rattle.strands.specs.Lists.{fibreRecord}
+
+-- each c(i), in the first n cells, is a number of two bytes
+unfoldable pub Fit : ℕ → List ℕ → Type 0
+Fit n C = (k : ℕ) → k < n → getD C k 0 ≤ 65535
 
 -- whether link i reaches t: c(i) is t or more
 unfoldable pub reaches : (ℕ → ℕ) → ℕ → ℕ → Bool
@@ -22,10 +29,10 @@ unfoldable pub layersBy : (ℕ → ℕ) → ℕ → ℕ → ℕ → List Fibre
 layersBy f n top zero = []
 layersBy f n top (suc h) = layersBy f n top h ++ layerBy f n top (suc h)
 
--- how many steps c rises from link i on, over k links, as far as they lie above t: one run starts in a layer for each
-unfoldable pub climb : (ℕ → ℕ) → ℕ → ℕ → ℕ → ℕ
-climb f t i zero = 0
-climb f t i (suc k) = (f (suc i) - max (f i) t) + climb f t (suc i) k
+-- the spare cells C' have, for each of the first k layers, the number of pairs before it; the cells before them are as in C
+pub record Spared (n m top k : ℕ) (C C' : List ℕ) : Type 0 where
+  pub kept : take (2 * n + m) C' ≡ take (2 * n + m) C
+  pub starts : (h : ℕ) → h < k → getD C' (2 * n + m + h) 0 ≡ length (layersBy (at C) n top h)
 
 -- fibre f at place k of the list, where place 0 has number from + 1
 unfoldable pub putFibre : ℕ → ℕ → Fibre → List ℕ → List ℕ
@@ -39,8 +46,3 @@ putPair from k f out = putFibre from (k + 1) f (putFibre from k f out)
 unfoldable pub putPairs : ℕ → ℕ → List Fibre → List ℕ → List ℕ
 putPairs from k [] out = out
 putPairs from k (f ∷ fs) out = putPairs from (k + 2) fs (putPair from k f out)
-
--- how many runs start among i, i + 1, .. (k of them), where b tells whether the link before passes
-unfoldable pub starts : (ℕ → Bool) → Bool → ℕ → ℕ → ℕ
-starts p b i zero = 0
-starts p b i (suc k) = cond (p i && not b) 1 0 + starts p (p i) (suc i) k

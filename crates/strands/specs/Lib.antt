@@ -2,4 +2,3 @@ pub mod Lists
 pub mod Area
 pub mod Laid
 pub mod Layers
-pub mod Halves

@@ -8,7 +8,7 @@ ghost use Rattle.records.specs.Bytes.{cellsOf};
 ghost use Rattle.method.specs.Fibres.{twice};
 ghost use Rattle.method.specs.Sheet.{at};
 ghost use Rattle.strands.specs.Lists.{fibreRecords};
-ghost use Rattle.strands.specs.Layers.{putFibre, putPair, putPairs, layerBy, layersBy};
+ghost use Rattle.strands.specs.Layers.{Fit, Spared, putFibre, putPair, putPairs, layerBy, layersBy};
 
 // One fibre at place k of the list.
 fn put_one(out: &mut [u8], from: usize, k: usize, first: usize, last: usize, layer: usize)
@@ -45,13 +45,13 @@ fn one_layer(
     many: usize,
     out: &mut [u8],
 ) -> usize
-    requires { ⌜ (2 * n ≤ length (now work)) × (n ≤ 512) × (1 ≤ h) × (h ≤ top) × (top ≤ 65535) ⌝ }
+    requires { ⌜ (2 * n ≤ length (now work)) × (n ≤ 512) × (1 ≤ h) × (h ≤ top) × (top ≤ 65535) × Fit n (cellsOf (now work)) ⌝ }
     requires { ⌜ 8 * (many + 2 * length (layerBy (at (cellsOf (now work))) n top h)) ≤ length (now out) ⌝ }
     requires { ⌜ from + (many + 2 * length (layerBy (at (cellsOf (now work))) n top h)) ≤ 65535 ⌝ }
     ensures { λ r. ⌜ (r ≡ many + 2 * length (layerBy (at (cellsOf (now (work .entry)))) n top h))
         × (now (out .exit) ≡ putPairs from many (layerBy (at (cellsOf (now (work .entry)))) n top h) (now (out .entry))) ⌝ }
 {
-    let t = top + 1 - h;
+    let t = (top + 1 - h) as u16;
     let mut many = many;
     let mut l = needs::next_run(work, n, 1, t);
     while l <= n {
@@ -63,19 +63,28 @@ fn one_layer(
     many
 }
 
-// The whole fibre list, numbered after `from`. What is told: how many fibres.
-pub fn write_fibres(work: &[u8], n: usize, top: usize, from: usize, out: &mut [u8]) -> usize
-    requires { ⌜ (2 * n ≤ length (now work)) × (n ≤ 512) × (top ≤ 65535) ⌝ }
+// The whole fibre list, numbered after `from`. What is told: how many pairs. Before each layer, their number goes into a spare cell of the work area.
+pub fn write_fibres(
+    work: &mut [u8],
+    n: usize,
+    m: usize,
+    top: usize,
+    from: usize,
+    out: &mut [u8],
+) -> usize
+    requires { ⌜ (length (now work) ≡ 4 * n + 4 * m) × (n ≤ 512) × (m ≤ 2048) × (top ≤ m) × Fit n (cellsOf (now work)) ⌝ }
     requires { ⌜ 16 * length (layersBy (at (cellsOf (now work))) n top top) ≤ length (now out) ⌝ }
     requires { ⌜ from + 2 * length (layersBy (at (cellsOf (now work))) n top top) ≤ 65535 ⌝ }
-    ensures { λ r. ⌜ (r ≡ 2 * length (layersBy (at (cellsOf (now (work .entry)))) n top top))
-        × (now (out .exit) ≡ fibreRecords from (twice (layersBy (at (cellsOf (now (work .entry)))) n top top)) ++ drop (8 * r) (now (out .entry))) ⌝ }
+    ensures { λ r. ⌜ (r ≡ length (layersBy (at (cellsOf (now (work .entry)))) n top top))
+        × (now (out .exit) ≡ fibreRecords from (twice (layersBy (at (cellsOf (now (work .entry)))) n top top)) ++ drop (8 * (2 * r)) (now (out .entry)))
+        × Spared n m top top (cellsOf (now (work .entry))) (cellsOf (now (work .exit))) ⌝ }
 {
     let mut h = 0;
     let mut many = 0;
     while h < top {
+        records::cells::put(work, 2 * n + m + h, many as u16);
         h += 1;
-        many = one_layer(work, n, top, h, from, many, out);
+        many = one_layer(work, n, top, h, from, 2 * many, out) / 2;
     }
     many
 }

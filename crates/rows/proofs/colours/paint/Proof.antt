@@ -1,4 +1,4 @@
--- `paint`: links from `start` to before i have the colour. Assumes nothing.
+-- `paint`: links from `start` to before i have the last row. Assumes nothing.
 use borrow.Author.Needs.{needs}
 use Prim.Native.Nat.{_-_, _≤_, max}
 use mathlib.Core.Path.{_≡_, refl, _∙_}
@@ -12,10 +12,10 @@ use Rattle.rows.proofs.colours.paint.Statement.{statement}
 use Rattle.rows.proofs.colours.paint.Tie as tie
 
 abbrev Inv-loop : tie.InvT-loop
-Inv-loop cells₀ n start past colour i₀ cells i = (i ≤ max start past) × Written (oneColour colour) start i (cellsOf cells₀) (cellsOf cells) × (length cells ≡ length cells₀)
+Inv-loop lasts₀ n start past v i₀ lasts i = (i ≤ max start past) × Written (oneColour v) start i (cellsOf lasts₀) (cellsOf lasts) × (length lasts ≡ length lasts₀)
 
 abbrev μ-loop : tie.MeasureT-loop
-μ-loop cells₀ n start past colour i₀ cells i = past - i
+μ-loop lasts₀ n start past v i₀ lasts i = past - i
 
 loop-holds : tie.Need-loop-holds Inv-loop μ-loop
 loop-holds c = (search needs, written-start _ _ _, refl)
@@ -27,7 +27,7 @@ loop-again c =
     let put = c .before .before .put in
     let s = l .inv .1 .since in (
       search needs,
-      written-turn _ _ (l .i) _ _ _ _ (l .inv .1) (stored _ _ _ _ (put .ensures)) refl (omega arith) (omega (arith, length-cellsOf (start .args .cells .now) (start .args .n) (omega arith))),
+      written-turn _ _ (l .i) _ _ _ _ (l .inv .1) (stored _ _ _ _ (put .ensures)) refl (omega arith) (omega (arith, length-cellsOf (start .args .lasts .now) (start .args .n) (omega arith))),
       put .kept .0 ∙ l .inv .2,
     )
 
@@ -35,7 +35,7 @@ returns : tie.Need-returns Inv-loop μ-loop
 returns c =
     let start = c .before .before .before in
     let l = c .before .loop in
-    paint-done _ _ _ _ (l .i) _ _ (length-cellsOf (start .args .cells .now) (start .args .n) (omega arith)) (omega arith) (omega arith) (l .inv .1)
+    paint-done _ _ _ _ (l .i) _ _ (length-cellsOf (start .args .lasts .now) (start .args .n) (omega arith)) (omega arith) (omega arith) (l .inv .1)
 
 pub paint-spec : {M : Type 1} → statement M
 paint-spec =

@@ -10,10 +10,8 @@ use Rattle.records.specs.Bytes.{cellsOf}
 use Rattle.records.specs.Records.{circuitsIn}
 use Rattle.records.specs.declared.Circuit.{Circuit}
 use Rattle.records.proofs.Files.{length-circuitsIn}
-use Rattle.rows.specs.Loads.{loadTo}
-use Rattle.method.proofs.Circuits.{circuit-in}
-use Rattle.method.proofs.Circuits.{lies-at}
-use Rattle.rows.proofs.LoadLaws.{load-none, load-more, load-all, load-below}
+use Rattle.method.proofs.Circuits.{circuit-in, lies-at}
+use Rattle.rows.proofs.LoadLaws.{loadTo, load-none, load-more, load-all, load-below}
 use Rattle.rows.proofs.loads.count_loads.Statement.{statement}
 use Rattle.rows.proofs.loads.count_loads.Tie as tie
 
@@ -45,14 +43,14 @@ loop-again c =
     let start = c .before .before .before .before .before .before .before .before .before .before .before in
     let l = c .before .before .before .before .before .before .before .before .loop in
     let circuit-at = c .before .before .before .before .before .before .circuit-at in
-    let wide = c .before .before .before .before .wide in
-    let wide2 = c .before .before .before .wide2 in
+    let index = c .before .before .before .before .index in
+    let index2 = c .before .before .before .index2 in
     let add-one = c .before .before .add-one in
     let a = start .args in
     let e = circuit-at .ensures in
     let r = circuit-in (a .m) (a .circuits .now) (l .j) (omega arith) in
-    let p : wide .result ≡ (circuit (circuitsIn (a .m) (a .circuits .now)) (l .j)) .first = wide .ensures .0 ∙ ap (λ (c : Circuit). c .first) e ∙ sym (ap (λ (c : Circuit). c .first) r) in
-    let q : wide2 .result ≡ (circuit (circuitsIn (a .m) (a .circuits .now)) (l .j)) .last = wide2 .ensures .0 ∙ ap (λ (c : Circuit). c .last) e ∙ sym (ap (λ (c : Circuit). c .last) r) in
+    let p : index .result ≡ (circuit (circuitsIn (a .m) (a .circuits .now)) (l .j)) .first = index .ensures .0 ∙ ap (λ (c : Circuit). c .first) e ∙ sym (ap (λ (c : Circuit). c .first) r) in
+    let q : index2 .result ≡ (circuit (circuitsIn (a .m) (a .circuits .now)) (l .j)) .last = index2 .ensures .0 ∙ ap (λ (c : Circuit). c .last) e ∙ sym (ap (λ (c : Circuit). c .last) r) in
     (search needs, add-one .kept .0 ∙ l .inv .1, load-more _ _ (l .j) _ _ _ _ (l .inv .2) p q (add-one .ensures))
 
 returns : tie.Need-returns Inv-loop μ-loop

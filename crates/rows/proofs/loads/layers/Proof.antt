@@ -13,7 +13,7 @@ cast-result c = quotient-fits _ _ (omega arith)
 returns : tie.Need-returns
 returns c =
     let start = c .before in
-    ap (λ (z : ℕ). (z + (start .args .w - 1)) / start .args .w) (c .wide .ensures .0)
+    ap (λ (z : ℕ). (z + (start .args .w - 1)) / start .args .w) (c .index .ensures .0)
 
 pub layers-spec : {M : Type 1} → statement M
 layers-spec = tie.close (tie.spec (λ c κs. search needs) (λ c. search needs) (λ c. search needs) (λ c. search needs) cast-result returns)

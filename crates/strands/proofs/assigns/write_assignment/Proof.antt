@@ -1,24 +1,20 @@
 -- `strands::assigns::write_assignment` meets its contract: circuit, fibre and wavelength of the record are the definition's. Assumes nothing.
-use Prim.Native.Nat.{_+_}
-use mathlib.Core.Path.{_≡_, sym, ap, _∙_}
 use borrow.Author.Needs.{needs}
-use Rattle.records.specs.Records.{assignmentBytes, circuitsIn, putRecord}
+use Prim.Native.Nat.{_+_}
+use mathlib.Core.Path.{_≡_, ap, _∙_, sym}
+use Rattle.records.specs.Records.{circuitsIn, putRecord, assignmentBytes}
 use Rattle.method.specs.Line.{circuit}
-use Rattle.strands.specs.Lists.{assignmentRecord}
 use Rattle.method.proofs.Circuits.{circuit-in}
+use Rattle.strands.specs.Lists.{assignmentRecord}
 use Rattle.strands.proofs.assigns.write_assignment.Statement.{statement}
 use Rattle.strands.proofs.assigns.write_assignment.Tie as tie
 
 returns : tie.Need-returns
 unfolding assignmentRecord
-returns c = let p = c .before .before in
-    let o = p .before .before .before .before in
-    let k = o .before in
-    let st = k .before .before .before .before in
-    let a = st .args in
-    let x : k .circuit-at .result .number ≡ (circuit (circuitsIn (a .m) (a .circuits .now)) (a .j)) .number = ap (λ y. y .number) (k .circuit-at .ensures ∙ sym (circuit-in (a .m) (a .circuits .now) (a .j) (st .pre .1 .1 .1 .0))) in
-    p .put-assignment .ensures
-    ∙ (λ i. putRecord (a .out .now) (a .j) (assignmentBytes (record { circuit = x i; fibre = a .from + o .place-of .ensures .0 i; wavelength = o .place-of .ensures .1 i })))
+returns c = let st = c .before .before .before .before .before .before .before .before .before .before .before .before in let a = st .args in
+    let x : c .before .before .before .before .before .before .before .circuit-at .result .number ≡ (circuit (circuitsIn (a .m) (a .circuits .now)) (a .j)) .number = ap (λ y. y .number) (c .before .before .before .before .before .before .before .circuit-at .ensures ∙ sym (circuit-in (a .m) (a .circuits .now) (a .j) (st .pre .1 .1 .1 .0))) in
+    c .before .before .put-assignment .ensures
+    ∙ (λ i. putRecord (a .out .now) (a .j) (assignmentBytes (record { circuit = x i; fibre = a .from + c .before .before .before .before .before .before .place-of .ensures .0 i; wavelength = c .before .before .before .before .before .before .place-of .ensures .1 i })))
 
 pub write-assignment-spec : {M : Type 1} → statement M
 write-assignment-spec =

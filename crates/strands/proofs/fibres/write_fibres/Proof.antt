@@ -1,49 +1,67 @@
--- `strands::fibres::write_fibres` meets its contract: after layer h the list is that of `putPairs` over the layers to h. Assumes nothing.
-use Prim.Native.Nat.{_+_, _-_, _*_, _≤_}
-use mathlib.Core.Path.{_≡_, refl, _∙_}
-use native.Mathlib.Omega.{arith}
-use lib.ListN.{length}
+-- `strands::fibres::write_fibres` meets its contract: the loop stands as `Layering` says, and its turns are the laws of proofs/Layering.antt. Assumes nothing.
 use borrow.Author.Needs.{needs}
+use Prim.Native.Nat.{_-_}
+use native.Mathlib.Omega.{arith}
 use Rattle.records.specs.Bytes.{cellsOf}
 use Rattle.method.specs.Sheet.{at}
-use Rattle.strands.specs.Layers.{layersBy, putPairs}
-use Rattle.strands.proofs.Walk.{length-more, layers-grow}
-use Rattle.strands.proofs.Written.{layers-turn, putPairs-all}
+use Rattle.strands.proofs.Walk.{layers-grow}
+use Rattle.strands.proofs.Layering.{layering-start, layering-turn, layering-end, layer-room, needs-fit, Layering}
 use Rattle.strands.proofs.fibres.write_fibres.Statement.{statement}
 use Rattle.strands.proofs.fibres.write_fibres.Tie as tie
 
 abbrev Inv-loop : tie.InvT-loop
-Inv-loop work n top from out₀ h₀ many₀ out h many = (h ≤ top) × (length out ≡ length out₀) × (many ≡ 2 * length (layersBy (at (cellsOf work)) n top h)) × (out ≡ putPairs from 0 (layersBy (at (cellsOf work)) n top h) out₀)
+Inv-loop work₀ n m top from out₀ h₀ many₀ work out h many = Layering n m top from work₀ out₀ work out h many
 
 abbrev μ-loop : tie.MeasureT-loop
-μ-loop work n top from out₀ h₀ many₀ out h many = top - h
+μ-loop work₀ n m top from out₀ h₀ many₀ work out h many = top - h
 
 loop-holds : tie.Need-loop-holds Inv-loop μ-loop
-unfolding layersBy putPairs
-loop-holds c = (omega arith, refl, refl, refl)
+loop-holds c = let a = c .before .before .args in layering-start (a .n) (a .m) (a .top) (a .from) (a .work .now) (a .out .now) (omega arith) (omega arith)
+
+mul-put : tie.Need-mul-put Inv-loop μ-loop
+mul-put c = omega arith
+
+add-put : tie.Need-add-put Inv-loop μ-loop
+add-put c = omega arith
+
+add-put-2 : tie.Need-add-put-2 Inv-loop μ-loop
+add-put-2 c = omega arith
+
+cast-put : tie.Need-cast-put Inv-loop μ-loop
+cast-put c = let a = c .before .before .before .before .before .args in let l = c .before .before .loop in let k = l .inv .many-are in omega (arith, layers-grow (at (cellsOf (a .work .now))) (a .n) (a .top) (l .h) (a .top) (omega arith))
+
+put-requires : tie.Need-put-requires Inv-loop μ-loop
+put-requires c κs = let l = c .before .before .loop in let k = l .inv .long in omega arith
+
+add-h : tie.Need-add-h Inv-loop μ-loop
+add-h c = omega arith
+
+mul-one-layer : tie.Need-mul-one-layer Inv-loop μ-loop
+mul-one-layer c = let a = c .before .before .before .before .before .before .before .before .before .args in let l = c .before .before .before .before .before .before .loop in let k = l .inv .many-are in omega (arith, layers-grow (at (cellsOf (a .work .now))) (a .n) (a .top) (l .h) (a .top) (omega arith))
 
 one-layer-requires : tie.Need-one-layer-requires Inv-loop μ-loop
-one-layer-requires c κs = let l = c .before .before in let a = l .before .before .before .args in
-    let f = at (cellsOf (a .work .now)) in
-    let m = length-more f (a .n) (a .top) (l .loop .h) in
-    let g = layers-grow f (a .n) (a .top) (l .loop .h + 1) (a .top) (omega arith) in
-    ((omega arith, omega arith, omega arith, omega arith, omega arith), (omega arith, omega arith))
+one-layer-requires c κs = let st = c .before .before .before .before .before .before .before .before .before .before in let a = st .args in let l = c .before .before .before .before .before .before .before .loop in
+    let k = l .inv .long in
+    let k₁ = c .before .before .before .before .put .kept .0 in
+    let s = l .inv .sized in
+    let r = layer-room (a .n) (a .m) (a .top) (a .from) (a .work .now) (a .out .now) (omega arith) (omega arith) (l .work) (l .out) (l .h) (l .many) (l .inv) (omega arith) _ (c .before .before .before .before .put .ensures) in
+    let f = needs-fit (a .n) (a .m) (a .top) (a .from) (a .work .now) (a .out .now) (omega arith) (omega arith) (l .work) (l .out) (l .h) (l .many) (l .inv) (omega arith) _ (c .before .before .before .before .put .ensures) (st .pre .0 .4) in
+    ((omega arith, omega arith, omega arith, omega arith, omega arith, f), (omega arith, omega arith))
 
 loop-again : tie.Need-loop-again Inv-loop μ-loop
-loop-again c = let o = c .before .before in let l = o .before .before .before in let a = l .before .before .before .args in
-    let f = at (cellsOf (a .work .now)) in
-    let m = length-more f (a .n) (a .top) (l .loop .h) in
-    let e = o .one-layer .ensures in
-    let e₀ = e .0 in
-    (omega arith, o .one-layer .kept .1 .1 .1 .1 .1 .1 .0 ∙ l .loop .inv .1, omega arith, layers-turn f (a .n) (a .top) (a .from) (l .loop .h) (l .loop .many) (a .out .now) (l .loop .out) _ (l .loop .inv .2) (l .loop .inv .3) (e .1))
+loop-again c = let st = c .before .before .before .before .before .before .before .before .before .before .before .before .before in let a = st .args in let l = c .before .before .before .before .before .before .before .before .before .before .loop in let o = c .before .before .one-layer in
+    layering-turn (a .n) (a .m) (a .top) (a .from) (a .work .now) (a .out .now) (omega arith) (omega arith) (l .work) (l .out) (l .h) (l .many) (l .inv) (omega arith) _ (c .before .before .before .before .before .before .before .put .ensures)
+    _ (o .result) (c .before .before .before .before .before .before .before .put .kept .0) (o .kept .1 .1 .1 .1 .1 .1 .0) (o .ensures .0) (o .ensures .1)
+
+same-length : tie.Need-same-length Inv-loop μ-loop
+same-length c = c .before .loop .inv .long
+
+same-length-2 : tie.Need-same-length-2 Inv-loop μ-loop
+same-length-2 c = c .before .loop .inv .sized
 
 returns : tie.Need-returns Inv-loop μ-loop
-returns c = let l = c .before in let a = l .before .before .before .args in
-    let f = at (cellsOf (a .work .now)) in
-    let h : l .loop .h ≡ a .top = omega arith in
-    let m : l .loop .many ≡ 2 * length (layersBy f (a .n) (a .top) (a .top)) = rw h at (l .loop .inv .2) in
-    let o : l .loop .out ≡ putPairs (a .from) 0 (layersBy f (a .n) (a .top) (a .top)) (a .out .now) = rw h at (l .loop .inv .3) in
-    (m, rw m (o ∙ putPairs-all (a .from) (layersBy f (a .n) (a .top) (a .top)) (a .out .now)))
+returns c = let st = c .before .before .before .before in let a = st .args in let l = c .before .loop in
+    layering-end (a .n) (a .m) (a .top) (a .from) (a .work .now) (a .out .now) (omega arith) (omega arith) (l .work) (l .out) (l .h) (l .many) (l .inv) (omega arith)
 
 pub write-fibres-spec : {M : Type 1} → statement M
 write-fibres-spec =
@@ -52,9 +70,16 @@ write-fibres-spec =
     Inv-loop
     μ-loop
     loop-holds
-    (λ c. search needs)
+    mul-put
+    add-put
+    add-put-2
+    cast-put
+    put-requires
+    add-h
+    mul-one-layer
     one-layer-requires
     (λ c. search needs)
     loop-again
-    (λ c. search needs)
+    same-length
+    same-length-2
     returns)

@@ -12,7 +12,7 @@ returns : tie.Need-returns
 returns c = let a = c .before .before .args in let e : a .i ≡ 0 = omega arith in (sym (ap (at (cellsOf (a .work .now))) e ∙ at-zero (cellsOf (a .work .now))), omega arith)
 
 returns-2 : tie.Need-returns-2
-returns-2 c = let g = c .before in let a = g .before .before .before .args in (c .wide .ensures .0 ∙ g .get .ensures ∙ at-cell (a .work .now) (a .i) (omega arith) (omega arith), c .wide .ensures .1)
+returns-2 c = let g = c .before in let a = g .before .before .before .args in (c .index .ensures .0 ∙ g .get .ensures ∙ at-cell (a .work .now) (a .i) (omega arith) (omega arith), c .index .ensures .1)
 
 pub need-at-spec : {M : Type 1} → statement M
 need-at-spec = tie.close (tie.spec returns (λ c. search needs) (λ c κs. search needs) (λ c κs. search needs) returns-2)

@@ -1,51 +1,17 @@
--- `strands::needs::next_run` meets its contract: what is sought from here on is what was sought from the start. Assumes nothing.
-use Prim.Native.Nat.{suc, _+_, _-_, _≤_}
-use mathlib.Core.Path.{_≡_, refl, sym, _∙_}
-use native.Mathlib.Omega.{arith}
-use borrow.Author.Tests.{le-leb, lt-leb}
+-- `strands::needs::next_run` meets its contract: the first cell within the bounds is that of the first link that reaches t. Assumes nothing.
 use borrow.Author.Needs.{needs}
-use Rattle.basics.specs.Tools.{seek}
+use Prim.Native.Nat.{_+_, _-_, _≤_}
+use native.Mathlib.Omega.{arith}
 use Rattle.records.specs.Bytes.{cellsOf}
-use Rattle.method.specs.Sheet.{at}
-use Rattle.strands.specs.Layers.{reaches}
-use Rattle.basics.proofs.Searches.{seek-here, seek-onward, seek-over}
+use Rattle.strands.proofs.Turns.{next-is, sought-le}
 use Rattle.strands.proofs.needs.next_run.Statement.{statement}
 use Rattle.strands.proofs.needs.next_run.Tie as tie
 
-abbrev Inv-loop : tie.InvT-loop
-Inv-loop work n i t x₀ x = (i ≤ x) × (x ≤ n + 1) × (seek (reaches (at (cellsOf work)) t) x (suc n - x) ≡ seek (reaches (at (cellsOf work)) t) i (suc n - i))
+add-result : tie.Need-add-result
+add-result c = let a = c .before .before .args in let z : c .first-within .result ≤ a .i - 1 + (a .n - (a .i - 1)) = sought-le _ _ _ _ (c .first-within .ensures) in omega arith
 
-abbrev μ-loop : tie.MeasureT-loop
-μ-loop work n i t x₀ x = n + 1 - x
-
-loop-holds : tie.Need-loop-holds Inv-loop μ-loop
-loop-holds c = (search needs, search needs, refl)
-
-returns : tie.Need-returns Inv-loop μ-loop
-unfolding reaches
-returns c = let l = c .before .before .before in let a = l .before .before .args in
-    let r = c .before .need-at .ensures .0 in
-    sym (seek-here (reaches (at (cellsOf (a .work .now))) (a .t)) (l .loop .x) (suc (a .n)) (omega arith) (le-leb (a .t) (at (cellsOf (a .work .now)) (l .loop .x)) (omega arith))) ∙ l .loop .inv .2
-
-loop-again : tie.Need-loop-again Inv-loop μ-loop
-unfolding reaches
-loop-again c = let l = c .before .before .before in let a = l .before .before .args in
-    (omega arith, omega arith, sym (seek-onward (reaches (at (cellsOf (a .work .now))) (a .t)) (l .loop .x) (suc (a .n)) (omega arith) (lt-leb (a .t) (at (cellsOf (a .work .now)) (l .loop .x)) (omega arith))) ∙ l .loop .inv .2)
-
-returns-2 : tie.Need-returns-2 Inv-loop μ-loop
-returns-2 c = let l = c .before in let a = l .before .before .args in
-    sym (seek-over (reaches (at (cellsOf (a .work .now))) (a .t)) (l .loop .x) (suc (a .n)) (omega arith)) ∙ l .loop .inv .2
+returns : tie.Need-returns
+returns c = let st = c .before .before in let a = st .args in next-is (cellsOf (a .work .now)) (a .n) (a .t) (a .i) (c .first-within .result) (omega arith) (omega arith) (st .pre .4) (c .first-within .ensures)
 
 pub next-run-spec : {M : Type 1} → statement M
-next-run-spec =
-    tie.close
-    (tie.spec
-    Inv-loop
-    μ-loop
-    loop-holds
-    (λ c κs. search needs)
-    returns
-    (λ c. search needs)
-    (λ c. search needs)
-    loop-again
-    returns-2)
+next-run-spec = tie.close (tie.spec (λ c. search needs) (λ c κs. search needs) add-result returns)
