@@ -9,7 +9,7 @@ use native.Mathlib.Omega.{arith}
 use lib.ListN.{length, getD, set}
 use lib.Seq.{getD-set-same, getD-set-other}
 use lib.Dec.{eqb}
-use borrow.Author.Tests.{eqb-true, eq-eqb, ne-eqb, lt-leb}
+use borrow.Author.Tests.{eqb-true, eq-eqb, ne-eqb}
 use Rattle.basics.specs.Tools.{count, seek, lowest, part}
 use Rattle.basics.proofs.Bools.{on, by-eq, by-le, clash, and-l, and-r, and-of}
 use Rattle.basics.proofs.Counts.{count-lt}
@@ -84,11 +84,6 @@ fit-is m from to a b L h k =
     (λ x i j. ap₂ (λ (u v : ℕ). within a u && within b v)
     (getD-part 0 m L x 0 (omega arith) ∙ ap (λ (y : ℕ). getD L y 0) (zero-add x)) (getD-part m m L x 0 (omega arith)))
 
--- first link 0 is within no bounds that begin at 1
-pub fits-not : (a b : Bounds) (y : ℕ) → 1 ≤ a .low → within a 0 && within b y ≡ false
-unfolding within
-fits-not a b y h = rw (lt-leb (a .low) 0 (omega arith))
-
 -- the first place that fits is the lowest of the waiting circuits that fit
 pub chosen-is : (m : ℕ) (cs : List Circuit) (R L : List ℕ) (q : Queue) (f : ℕ → ℕ → Bool) (p : ℕ)
     → length cs ≡ m → Distinct cs → Queued m cs R L q → ((b : ℕ) → f 0 b ≡ false)
@@ -111,10 +106,9 @@ chosen-is m cs R L q f p l d Q out e h = go (lowest (passing cs R f) (numbers cs
 
 -- where no place fits, no waiting circuit does
 pub chosen-none : (m : ℕ) (cs : List Circuit) (R L : List ℕ) (q : Queue) (f : ℕ → ℕ → Bool) (p : ℕ)
-    → length cs ≡ m → Distinct cs → Queued m cs R L q → ((b : ℕ) → f 0 b ≡ false)
-    → p ≡ seek (λ x. f (getD L x 0) (getD L (m + x) 0)) (q .from) (q .to - q .from) → q .to ≤ p
+    → Queued m cs R L q → p ≡ seek (λ x. f (getD L x 0) (getD L (m + x) 0)) (q .from) (q .to - q .from) → q .to ≤ p
     → lowest (λ j. eqb (getD R j 0) 0 && f ((circuit cs j) .first) ((circuit cs j) .last)) (λ j. (circuit cs j) .number) m ≡ none
-chosen-none m cs R L q f p l d Q out e h = go (lowest (passing cs R f) (numbers cs) m) refl
+chosen-none m cs R L q f p Q e h = go (lowest (passing cs R f) (numbers cs) m) refl
   where
     go : (o : Option ℕ) → lowest (passing cs R f) (numbers cs) m ≡ o → lowest (passing cs R f) (numbers cs) m ≡ none
     go none eo = eo
@@ -126,10 +120,10 @@ chosen-none m cs R L q f p l d Q out e h = go (lowest (passing cs R f) (numbers 
 
 -- and the circuit at that place waits
 pub chosen-waits : (m : ℕ) (cs : List Circuit) (R L : List ℕ) (q : Queue) (f : ℕ → ℕ → Bool) (p : ℕ)
-    → length cs ≡ m → Distinct cs → Queued m cs R L q → ((b : ℕ) → f 0 b ≡ false)
+    → Queued m cs R L q → ((b : ℕ) → f 0 b ≡ false)
     → p ≡ seek (λ x. f (getD L x 0) (getD L (m + x) 0)) (q .from) (q .to - q .from) → p < q .to
     → (placeIn m L p < m) × (getD R (placeIn m L p) 0 ≡ 0)
-chosen-waits m cs R L q f p l d Q out e h =
+chosen-waits m cs R L q f p Q out e h =
     (Q .places p h, eqb-true (getD R (placeIn m L p) 0) 0 (and-l _ _ (first-passes m cs R L q f p Q out e h)))
 
 -- a first link that is set leaves the places as they are

@@ -1,18 +1,11 @@
 -- Laws of encoding: from cells to bytes and back. Assumes nothing.
 use Prim.Native.Nat.{ℕ, zero, suc, _+_, _*_, _/_, _%_, _<_}
-use mathlib.Core.Path.{_≡_, refl, ap, _∙_, sym}
+use mathlib.Core.Path.{_≡_, refl, ap}
 use mathlib.Core.List.{List, [], _∷_}
-use native.Mathlib.Nat.{mod-add-div}
 use native.Mathlib.Omega.{arith}
 use lib.ListN.{length, getD, take, replicate}
 use Rattle.records.specs.Bytes.{cellsOf, encode}
 use Rattle.records.proofs.CellLaws.{two-suc}
-
--- cells that are written as bytes are read back as they were
-pub cellsOf-encode : (cs : List ℕ) → cellsOf (encode cs) ≡ cs
-unfolding encode cellsOf
-cellsOf-encode [] = refl
-cellsOf-encode (v ∷ cs) = λ i. mod-add-div v 256 i ∷ cellsOf-encode cs i
 
 -- an even number of bytes is what its cells are written as
 pub encode-cellsOf : (n : ℕ) (b : List ℕ) → length b ≡ 2 * n → ((i : ℕ) → getD b i 0 < 256) → encode (cellsOf b) ≡ b
@@ -26,10 +19,6 @@ encode-cellsOf (suc n) (x ∷ y ∷ t) l h =
     let e : (x + 256 * y) % 256 ≡ x = omega arith in
     let f : (x + 256 * y) / 256 ≡ y = omega arith in
     λ i. e i ∷ f i ∷ encode-cellsOf n t (omega arith) (λ j. h (suc (suc j))) i
-
--- two lists of bytes of one even length with the same cells are the same list
-pub cells-pin : (n : ℕ) (a b : List ℕ) → length a ≡ 2 * n → length b ≡ 2 * n → ((i : ℕ) → getD a i 0 < 256) → ((i : ℕ) → getD b i 0 < 256) → cellsOf a ≡ cellsOf b → a ≡ b
-cells-pin n a b p q f g e = sym (encode-cellsOf n a p f) ∙ ap encode e ∙ encode-cellsOf n b q g
 
 -- 2 n bytes that are 0 hold n cells that are 0
 pub cellsOf-zeros : (n : ℕ) → cellsOf (replicate (2 * n) 0) ≡ replicate n 0

@@ -150,8 +150,8 @@ module _ (n m k : ℕ) (cs : List Circuit) (C L : List ℕ) (q : Queue) (run : R
 
   -- which is one of the file, and waits
   pub waits-there : p < q .to → (placeIn m L p < m) × (getD (rowsIn n m C) (placeIn m L p) 0 ≡ 0)
-  waits-there h = chosen-waits m cs (rowsIn n m C) L q (fitsRun run) p long distinct queued out found h
+  waits-there h = chosen-waits m cs (rowsIn n m C) L q (fitsRun run) p queued out found h
 
   -- the queue's end: nobody
   pub chosen-nobody : q .to ≤ p → chosen n cs (stateIn n m k C) ≡ none
-  chosen-nobody h = by-run ∙ chosen-none m cs (rowsIn n m C) L q (fitsRun run) p long distinct queued out found h
+  chosen-nobody h = by-run ∙ chosen-none m cs (rowsIn n m C) L q (fitsRun run) p queued found h
