@@ -9,13 +9,13 @@ use mathlib.Core.Option.{none}
 use mathlib.Core.Path.{_∙_, _≡_, ap, sym}
 use native.Mathlib.Omega.{arith}
 use Rattle.basics.proofs.Searches.{any-none}
-use Rattle.records.specs.Records.{circuitOf, circuitsOf, recordAt}
+use Rattle.records.specs.Records.{circuitOf, circuitsOf, recordAt, numberIn}
 use Rattle.records.specs.declared.Circuit.{Circuit}
 use Rattle.records.proofs.Files.{circuitsIn-at, length-circuitsIn}
 use Rattle.method.specs.Demands.{Rearranged}
 use Rattle.method.specs.Line.{circuit, nobody}
 use Rattle.refusals.specs.Given.{NoneApplies}
-use Rattle.refusals.specs.Table.{badEnds, firstRecord, numberIn, planTable, repeats, whenever}
+use Rattle.refusals.specs.Table.{badEnds, firstRecord, planTable, repeats, whenever}
 use Rattle.refusals.proofs.First.{record-none}
 use Rattle.refusals.proofs.FirstLaws.{first-end}
 use Rattle.refusals.proofs.Passed.{passed7}

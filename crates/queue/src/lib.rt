@@ -65,7 +65,7 @@ fn close_up(m: usize, list: &mut [u8], to: usize) -> usize
     r
 }
 
-// The queue, shortened: closed up once half of it is out, else begun at the first that waits.
+// The queue, shortened: closed up once half of it is out, else begun at the first that waits. Those that wait stay in it; how short it gets is not promised.
 pub fn shorten(m: usize, list: &mut [u8], q: Queue) -> Queue
     requires { ⌜ (m ≤ 2048) × (length (now list) ≡ 8 * m) × (q .from ≤ q .to) × (q .to ≤ m) × (q .many ≤ m) ⌝ }
     ensures { λ r. ⌜ (length (now (list .exit)) ≡ 8 * m) × ((cs : List Circuit) (R : List ℕ) → ((j : ℕ) → j < m → 1 ≤ (circuit cs j) .first) → Queued m cs R (cellsOf (now (list .entry))) q → Queued m cs R (cellsOf (now (list .exit))) r) ⌝ }

@@ -5,10 +5,10 @@ use mathlib.Core.List.{List, [], _∷_, _++_}
 use native.Mathlib.Nat.{zero-add}
 use native.Mathlib.Omega.{arith}
 use lib.ListN.{length, getD, take, drop, length-drop, drop-of-length-le, take-append-drop}
-use lib.Seq.{length-take-le, take-at, drop-at, drop-drop, getD-drop, ext-getD}
+use lib.Seq.{length-take-le, drop-drop, getD-drop, ext-getD}
 use Rattle.basics.specs.Tools.{each}
 use Rattle.basics.proofs.Tables.{length-each, getD-each}
-use Rattle.records.specs.Records.{recordAt, circuitOf, circuitBytes, circuitsIn, circuitsOf, fileOf, putRecord}
+use Rattle.records.specs.Records.{recordAt, circuitOf, circuitBytes, circuitsIn, circuitsOf, fileOf}
 use Rattle.records.specs.declared.Circuit.{Circuit}
 use Rattle.records.proofs.Encode.{take-bytes}
 use Rattle.records.proofs.Inverse.{circuit-read-written, circuit-written-read}
@@ -77,10 +77,3 @@ unfolding circuitsIn
 file-written-read m s l h =
     let n : length s / 8 ≡ m = omega arith in
     ap (λ (j : ℕ). fileOf (circuitsIn j s)) n ∙ written-from m 0 s (omega arith) h
-
--- what is written as record i is read back as record i
-pub putRecord-same : (s : List ℕ) (i : ℕ) (r : List ℕ) → 8 * i + 8 ≤ length s → length r ≡ 8 → recordAt (putRecord s i r) i ≡ r
-unfolding putRecord
-putRecord-same s i r h e =
-    let rest = drop (8 * i + 8) s in
-    ap (take 8) (drop-at (take (8 * i) s) (r ++ rest) (8 * i) (length-take-le (8 * i) s (omega arith))) ∙ take-at r rest 8 e

@@ -25,6 +25,10 @@ fibreOf r = record { number = le16 r 0; first = le16 r 2; last = le16 r 4; layer
 abbrev pub assignmentOf : List ℕ → AssignmentRecord
 assignmentOf r = record { circuit = le32 r 0; fibre = le16 r 4; wavelength = le16 r 6 }
 
+-- the number of circuit i of a file
+abbrev pub numberIn : List ℕ → ℕ → ℕ
+numberIn s i = (circuitOf (recordAt s i)) .number
+
 -- the first m circuits of a file, in its order
 unfoldable pub circuitsIn : ℕ → List ℕ → List Circuit
 circuitsIn m s = each (λ i. circuitOf (recordAt s i)) 0 m

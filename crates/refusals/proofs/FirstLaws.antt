@@ -9,10 +9,10 @@ use borrow.Author.Tests.{lt-ltb, le-ltb}
 use Rattle.basics.specs.Tools.{any, seek}
 use Rattle.basics.proofs.Bools.{by-eq, by-le}
 use Rattle.basics.proofs.Searches.{any-false, seek-first, seek-none}
-use Rattle.records.specs.Records.{recordAt, circuitOf}
+use Rattle.records.specs.Records.{recordAt, circuitOf, numberIn}
 use Rattle.records.specs.declared.Circuit.{Circuit}
 use Rattle.refusals.specs.declared.Test.the-variants.{Checked, Refused}
-use Rattle.refusals.specs.Table.{firstRecord, numberIn, refusedOr}
+use Rattle.refusals.specs.Table.{firstRecord, refusedOr}
 
 -- the number of a record that was read
 pub number-is : (s : List ℕ) (j : ℕ) (r : Circuit) → r ≡ circuitOf (recordAt s j) → r .number ≡ numberIn s j

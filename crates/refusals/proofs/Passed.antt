@@ -11,9 +11,9 @@ use lib.Dec.{leb, ltb, eqb}
 use borrow.Author.Tests.{leb-true, ltb-false, eqb-true, eqb-false}
 use Rattle.basics.proofs.Bools.{and-l, and-r, by-le, or-false-l, or-false-r}
 use Rattle.basics.proofs.Searches.{any-false}
-use Rattle.records.specs.Records.{recordAt, circuitOf}
+use Rattle.records.specs.Records.{recordAt, circuitOf, numberIn}
 use Rattle.records.specs.declared.Circuit.{Circuit}
-use Rattle.refusals.specs.Table.{whenever, numberIn, badEnds, hasNumber, repeats, row1, row2, row3, row4, row5, row6, row7, row8, row9, row10}
+use Rattle.refusals.specs.Table.{whenever, badEnds, hasNumber, repeats, row1, row2, row3, row4, row5, row6, row7, row8, row9, row10}
 use Rattle.refusals.proofs.First.{record-none}
 
 -- a row that applies as a whole and does not apply: its test failed

@@ -7,7 +7,7 @@ use mathlib.Core.Option.{Option, none, some}
 use lib.ListN.{length}
 use lib.Dec.{leb, ltb, eqb}
 use Rattle.basics.specs.Tools.{any, seek}
-use Rattle.records.specs.Records.{recordAt, circuitOf}
+use Rattle.records.specs.Records.{recordAt, circuitOf, numberIn}
 use Rattle.records.specs.declared.Circuit.{Circuit}
 use Rattle.refusals.specs.declared.Test.{Test}
 use Rattle.refusals.specs.declared.Test.the-variants.{Checked, Refused}
@@ -25,10 +25,6 @@ whenever false = none
 -- the first of the first m records for which p holds, counted from 1
 unfoldable pub firstRecord : (ℕ → Bool) → ℕ → Option ℕ
 firstRecord p m = cond (ltb (seek p 0 m) m) (some (suc (seek p 0 m))) none
-
--- the number of record i, counted from 0
-abbrev pub numberIn : List ℕ → ℕ → ℕ
-numberIn s i = (circuitOf (recordAt s i)) .number
 
 -- first link 0, or first past last, or last past n
 unfoldable pub badEnds : ℕ → Circuit → Bool

@@ -137,16 +137,16 @@ pub fn unlike(circuits: &[u8], m: usize) -> Test
     ensures { λ r. ⌜ r ≡ tested (row7 (now (circuits .entry)) m) m ⌝ }
 {
     let mut place: usize = 0;
-    // The largest number so far: a larger one is like none before it.
-    let mut most: u32 = 0;
+    // The remainders of the numbers so far: a number with another one is like none before it.
+    let mut met: [bool; 8192] = [false; 8192];
     'pairs: for j in 0..m {
-        let c = records::circuit_at(circuits, j);
-        let x = c.number;
-        let mut i = 0;
-        if most < x {
-            most = x;
-            i = j;
+        let x = records::circuit_at(circuits, j).number;
+        let r = (x % 8192) as usize;
+        let mut i = j;
+        if met[r] {
+            i = 0;
         }
+        met[r] = true;
         while i + 32 <= j {
             if like_of_32(circuits, i, x) {
                 place = j + 1;

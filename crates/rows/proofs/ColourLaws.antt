@@ -11,15 +11,15 @@ use Rattle.method.specs.Sheet.{at, paint}
 use Rattle.rows.specs.Colours.{between, painted}
 use Rattle.rows.proofs.Written.{links-are, Written}
 
--- the same colour for each link
-abbrev pub oneColour : ℕ → ℕ → ℕ
-oneColour colour x = colour
+-- the same last row for each link
+abbrev pub oneRow : ℕ → ℕ → ℕ
+oneRow v x = v
 
 -- the loop has painted the links from `start` to before `past`
-pub paint-done : (n start past colour i : ℕ) (C₀ C : List ℕ) → length C₀ ≡ n → past ≤ i → i ≤ max start past → Written (oneColour colour) start i C₀ C → C ≡ painted n start past colour C₀
+pub paint-done : (n start past v i : ℕ) (C₀ C : List ℕ) → length C₀ ≡ n → past ≤ i → i ≤ max start past → Written (oneRow v) start i C₀ C → C ≡ painted n start past v C₀
 unfolding paint between
-paint-done n start past colour i C₀ C l e e' y =
-    links-are n C (λ x. cond (between start past x) colour (at C₀ x)) (y .long ∙ l)
+paint-done n start past v i C₀ C l e e' y =
+    links-are n C (λ x. cond (between start past x) v (at C₀ x)) (y .long ∙ l)
     (λ x p q.
     by-le start x
     (λ g. by-le past x (λ h. rw (le-leb start x g, le-ltb x past h) (y .late x (omega arith))) (λ h. rw (le-leb start x g, lt-ltb x past h) (y .done x g (omega arith))))

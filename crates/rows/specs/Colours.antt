@@ -34,7 +34,7 @@ pub record Moved (n k : ℕ) (D D' : List ℕ) : Type 0 where
   pub stays : (x : ℕ) → 1 ≤ x → x ≤ n → k ≤ at D x → at D' x ≡ at D x
   pub low : (x : ℕ) → 1 ≤ x → x ≤ n → at D x < k → at D' x ≢ blueRow → at D' x ≤ k
 
--- r is the first link such that it and all links from it to before l are blue
+-- all links from r to before l are blue, and link r − 1 is not
 pub record BlueTo (K : List ℕ) (l r : ℕ) : Type 0 where
   pub pos : 1 ≤ r
   pub below : r ≤ l

@@ -10,7 +10,7 @@ use Rattle.basics.specs.Tools.{each}
 use Rattle.records.specs.declared.Circuit.{Circuit}
 use Rattle.records.specs.Bytes.{cellsOf}
 use Rattle.records.specs.Records.{circuitsIn}
-use Rattle.method.specs.Sheet.{State, at, blue, need, redTo, sheet, rows}
+use Rattle.method.specs.Sheet.{at, blue, need, redTo, sheet, rows}
 use Rattle.rows.specs.Area.{lastsIn, rowsIn}
 use Rattle.rows.specs.Colours.{blueRow}
 

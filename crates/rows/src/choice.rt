@@ -9,7 +9,7 @@ ghost use Rattle.basics.specs.Tools.{seek};
 ghost use Rattle.records.specs.Bytes.{cellsOf};
 ghost use Rattle.rows.specs.Choice.{fitsRun};
 
-// The first place of the queue with a circuit that fits the run, or the queue's end. A place is fitted by four comparisons.
+// The first place of the queue with a circuit that fits the run, or the queue's end: its ends lie within two bounds.
 pub fn first_fit(m: usize, list: &[u8], waiting: Queue, run: Run) -> usize
     requires { ⌜ (m ≤ 2048) × (length (now list) ≡ 8 * m) × (waiting .from ≤ waiting .to) × (waiting .to ≤ m) ⌝ }
     requires { ⌜ (run .low ≤ run .from) × (run .from < run .past) × (run .past ≤ run .high) × (run .high ≤ 513) ⌝ }

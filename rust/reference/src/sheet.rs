@@ -18,15 +18,6 @@ fn fits(c: &Circuit, run: &RangeInclusive<usize>, colours: &[Colour], slip: Slip
     c.links().all(|i| run.contains(&i) || allowed(i)) && c.links().any(|i| run.contains(&i))
 }
 
-/// The circuits in the order in which they are asked: the lowest number of those that fit is placed.
-fn order(circuits: &[Circuit], slip: Slip) -> Vec<usize> {
-    let mut order: Vec<usize> = (0..circuits.len()).collect();
-    if slip != Slip::TiesByPlace {
-        order.sort_by_key(|&j| circuits[j].number);
-    }
-    order
-}
-
 /// The row of each circuit, counted from 1; `None` where none was found for it.
 pub fn rows(
     n: usize,
@@ -36,7 +27,6 @@ pub fn rows(
     slip: Slip,
 ) -> Vec<Option<usize>> {
     let top = c.iter().copied().max().unwrap_or(0);
-    let order = order(circuits, slip);
     let mut rows = vec![None; circuits.len()];
     let mut colours = vec![Red; n + 1];
     for k in 1..=top * w {
@@ -48,9 +38,14 @@ pub fn rows(
             }
         }
         while let Some(run) = runs(n, |i| colours[i] == Open).into_iter().next() {
-            let fitting =
+            let waits_and_fits =
                 |&j: &usize| rows[j].is_none() && fits(&circuits[j], &run, &colours, slip);
-            match order.iter().copied().find(fitting) {
+            let mut fitting = (0..circuits.len()).filter(waits_and_fits);
+            let chosen = match slip {
+                Slip::TiesByPlace => fitting.next(),
+                _ => fitting.min_by_key(|&j| circuits[j].number),
+            };
+            match chosen {
                 Some(j) => {
                     rows[j] = Some(k);
                     let used = circuits[j].links().filter(|i| run.contains(i));

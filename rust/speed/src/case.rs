@@ -18,13 +18,27 @@ pub struct Case {
 pub struct Times {
     pub ours: f64,
     pub plain: f64,
-    /// Ours, up to the end of the test for repeated numbers.
-    pub tests: f64,
+    /// Ours, up to the end of test 6.
+    pub six: f64,
+    /// Ours, up to the end of test 7, the one for repeated numbers.
+    pub seven: f64,
+    /// Plain Rust's, up to the end of test 7.
+    pub plain_seven: f64,
 }
 
 impl Times {
     pub fn ratio(&self) -> f64 {
         self.ours / self.plain
+    }
+
+    /// The ratio without tests 1 to 7 on either side.
+    pub fn ratio_after_tests(&self) -> f64 {
+        (self.ours - self.seven) / (self.plain - self.plain_seven)
+    }
+
+    /// The share of test 7 in our time; two measured times may cross where it is next to nothing.
+    pub fn share_of_seven(&self) -> f64 {
+        (self.seven - self.six).max(0.0) / self.ours
     }
 }
 
@@ -114,26 +128,52 @@ impl Case {
         assert!(one == two, "{:?}: the bytes differ", self.family);
     }
 
+    /// The file with a last record that test 6 refuses.
+    fn spoilt(&self, file: &[u8]) -> Vec<u8> {
+        let mut spoilt = file.to_vec();
+        let last_link = spoilt.len() - 2;
+        spoilt[last_link..].fill(0);
+        spoilt
+    }
+
     /// The best of so many rounds, each planner once a round.
     pub fn measure(&self, rounds: usize) -> Times {
         let file = self.file();
+        let spoilt = self.spoilt(&file);
         let mut areas = Areas::new(self);
         self.check(&file, &areas);
         let mut short = areas.clone();
         short.assignments.pop();
         assert_eq!(self.ours(&file, &mut short), Err((9, 0)));
+        assert_eq!(self.plain(&file, &mut short), Err((9, 0)));
+        assert_eq!(self.ours(&spoilt, &mut areas), Err((6, self.circuits)));
 
         let mut best = Times {
             ours: f64::MAX,
             plain: f64::MAX,
-            tests: f64::MAX,
+            six: f64::MAX,
+            seven: f64::MAX,
+            plain_seven: f64::MAX,
         };
+        let keep = |best: &mut f64, time: f64| *best = best.min(time);
         for _ in 0..rounds {
-            best.ours = best.ours.min(timed(&mut areas, |to| self.ours(&file, to)));
-            best.plain = best
-                .plain
-                .min(timed(&mut areas, |to| self.plain(&file, to)));
-            best.tests = best.tests.min(timed(&mut short, |to| self.ours(&file, to)));
+            keep(&mut best.ours, timed(&mut areas, |to| self.ours(&file, to)));
+            keep(
+                &mut best.plain,
+                timed(&mut areas, |to| self.plain(&file, to)),
+            );
+            keep(
+                &mut best.six,
+                timed(&mut areas, |to| self.ours(&spoilt, to)),
+            );
+            keep(
+                &mut best.seven,
+                timed(&mut short, |to| self.ours(&file, to)),
+            );
+            keep(
+                &mut best.plain_seven,
+                timed(&mut short, |to| self.plain(&file, to)),
+            );
         }
         best
     }

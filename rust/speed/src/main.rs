@@ -32,7 +32,7 @@ fn full_size() -> Vec<Case> {
 }
 
 fn print_cases(measured: &[(Case, Times)]) {
-    println!("| family | numbers | w | ours, µs | plain Rust, µs | ratio | tests 1 to 7, share |");
+    println!("| family | numbers | w | ours, µs | plain Rust, µs | ratio | test 7, share |");
     println!("|---|---|---:|---:|---:|---:|---:|");
     for (case, times) in measured {
         println!(
@@ -43,24 +43,32 @@ fn print_cases(measured: &[(Case, Times)]) {
             times.ours,
             times.plain,
             times.ratio(),
-            100.0 * times.tests / times.ours
+            100.0 * times.share_of_seven()
         );
     }
 }
 
-/// A line with the geometric mean and the worst of the ratios of some cases.
-fn print_ratios(name: &str, measured: &[(Case, Times)], such: impl Fn(&Case) -> bool) {
-    let chosen = measured.iter().filter(|(case, _)| such(case));
-    let ratios: Vec<f64> = chosen.map(|(_, times)| times.ratio()).collect();
+/// The geometric mean and the worst of some ratios.
+fn mean_and_worst(ratios: &[f64]) -> (f64, f64) {
     let logs: f64 = ratios.iter().map(|r| r.ln()).sum();
-    let mean = (logs / ratios.len() as f64).exp();
     let worst = ratios.iter().copied().fold(0.0, f64::max);
-    println!("| {name} | {mean:.2} | {worst:.2} |");
+    ((logs / ratios.len() as f64).exp(), worst)
+}
+
+/// A line with the ratios of some cases, as a whole and without tests 1 to 7.
+fn print_ratios(name: &str, measured: &[(Case, Times)], such: impl Fn(&Case) -> bool) {
+    let of = |ratio: fn(&Times) -> f64| -> (f64, f64) {
+        let chosen = measured.iter().filter(|(case, _)| such(case));
+        mean_and_worst(&chosen.map(|(_, times)| ratio(times)).collect::<Vec<_>>())
+    };
+    let (mean, worst) = of(Times::ratio);
+    let (mean_after, worst_after) = of(Times::ratio_after_tests);
+    println!("| {name} | {mean:.2} | {worst:.2} | {mean_after:.2} | {worst_after:.2} |");
 }
 
 fn print_summary(measured: &[(Case, Times)]) {
-    println!("| cases | geometric mean | worst |");
-    println!("|---|---:|---:|");
+    println!("| cases | geometric mean | worst | mean without tests 1 to 7 | worst without them |");
+    println!("|---|---:|---:|---:|---:|");
     print_ratios("all", measured, |_| true);
     for family in FAMILIES {
         print_ratios(&format!("{family:?}"), measured, |case| {

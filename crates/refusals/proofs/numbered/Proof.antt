@@ -7,7 +7,7 @@ use native.Mathlib.Omega.{arith}
 use borrow.Author.Needs.{needs}
 use borrow.Author.Tests.{eq-eqb, ne-eqb}
 use lib.Dec.{eqb}
-use Rattle.refusals.specs.Table.{numberIn}
+use Rattle.records.specs.Records.{numberIn}
 use Rattle.refusals.proofs.FirstLaws.{number-is, none-more, refused-at, checked-all}
 use Rattle.refusals.proofs.numbered.Statement.{statement}
 use Rattle.refusals.proofs.numbered.Tie as tie

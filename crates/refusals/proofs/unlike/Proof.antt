@@ -1,16 +1,20 @@
--- `unlike` meets its contract: no record before the one that is compared repeats an earlier one, nor has a number above `most`. Assumes nothing.
-use Prim.Native.Nat.{ℕ, _+_, _≤_, _<_, _-_}
+-- `unlike` meets its contract: no record before the one that is compared repeats an earlier one, and its remainder is marked. Assumes nothing.
+use Prim.Native.Nat.{ℕ, _+_, _≤_, _<_, _-_, _%_}
 use mathlib.Core.Path.{_≡_, refl, _∙_, ap, sym}
-use mathlib.Core.Bool.{true, false}
+use mathlib.Core.Bool.{Bool, true, false}
 use mathlib.Core.Logic.{_⊎_, inl, inr, ⊎-elim}
 use mathlib.Core.List.{List}
 use native.Mathlib.Omega.{arith}
 use borrow.Author.Needs.{needs}
 use borrow.Author.Tests.{eq-eqb, eqb-true, ne-eqb}
-use Rattle.basics.proofs.Bools.{by-eq}
+use lib.ListN.{length, getD, set, replicate, length-set, length-replicate}
+use lib.Seq.{getD-set-same, getD-set-other}
+use native.Mathlib.Nat.{mod-lt}
+use Rattle.records.specs.Records.{numberIn}
+use Rattle.basics.proofs.Bools.{by-eq, clash}
 use Rattle.basics.proofs.Searches.{any-hit, any-none, any-true}
 use Rattle.refusals.specs.declared.Test.the-variants.{Checked, Refused}
-use Rattle.refusals.specs.Table.{hasNumber, numberIn, repeats, row7, tested}
+use Rattle.refusals.specs.Table.{hasNumber, repeats, row7, tested}
 use Rattle.refusals.proofs.FirstLaws.{number-is, none-more, none-further, refused-at, checked-all}
 use Rattle.refusals.proofs.unlike.Statement.{statement}
 use Rattle.refusals.proofs.unlike.Tie as tie
@@ -19,24 +23,36 @@ use Rattle.refusals.proofs.unlike.Tie as tie
 abbrev Other : List ℕ → ℕ → ℕ → Type 0
 Other s x i = (d : ℕ) → d < i → hasNumber s x d ≡ false
 
--- no record below j has a number above most
-abbrev UpTo : List ℕ → ℕ → ℕ → Type 0
-UpTo s most j = (d : ℕ) → d < j → numberIn s d ≤ most
+-- the table has a place for each remainder, and that of each record below j is marked
+abbrev Marked : List ℕ → List Bool → ℕ → Type 0
+Marked s met j = (length met ≡ 8192) × ((d : ℕ) → d < j → getD met (numberIn s d % 8192) false ≡ true)
 
--- a number above all before it is like none of them
-above : (s : List ℕ) (most x j : ℕ) → UpTo s most j → most < x → Other s x j
-above s most x j u h d l = ne-eqb (numberIn s d) x (λ z. omega (arith, u d l))
+-- before any record, no place is marked
+none-marked : (s : List ℕ) → Marked s (replicate 8192 false) 0
+none-marked s = (length-replicate {A = Bool} 8192 false, λ d l. absurd (omega arith))
 
--- one record more, whose number may be above those before it
-up-to-more : (s : List ℕ) (most new j : ℕ) → UpTo s most j → most ≤ new → numberIn s j ≤ new → UpTo s new (j + 1)
-up-to-more s most new j u a b d l =
-    by-eq d j (λ e. omega (arith, ap (numberIn s) e)) (λ e. omega (arith, u d (omega arith)))
+-- a number whose remainder is not marked is like none before it
+unmarked : (s : List ℕ) (met : List Bool) (x j : ℕ) → Marked s met j → getD met (x % 8192) false ≡ false → Other s x j
+unmarked s met x j k f d l = ne-eqb (numberIn s d) x (λ z. clash _ (k .1 d l) (ap (λ (v : ℕ). getD met (v % 8192) false) z ∙ f))
+
+-- one record more, whose remainder is marked
+marked-more : (s : List ℕ) (met : List Bool) (x j : ℕ) → Marked s met j → x ≡ numberIn s j → Marked s (set met (x % 8192) true) (j + 1)
+marked-more s met x j k e =
+    let r = x % 8192 in
+    let long = k .0 in
+    let small : r < 8192 = mod-lt x (omega arith) in
+    let same : (d : ℕ) → d ≡ j → numberIn s d % 8192 ≡ r = λ d z. ap (λ (v : ℕ). v % 8192) (ap (numberIn s) z ∙ sym e) in (
+      length-set met r true ∙ long,
+      λ d l. by-eq (numberIn s d % 8192) r
+          (λ q. ap (λ (v : ℕ). getD (set met r true) v false) q ∙ getD-set-same met r true false (omega arith))
+          (λ q. getD-set-other met r _ true false q ∙ k .1 d (by-eq d j (λ z. absurd (q (same d z))) (λ z. omega arith))),
+    )
 
 abbrev Inv-loop : tie.InvT-loop
-Inv-loop circuits m place₀ most j x i₀ place i = (i ≤ j) × (place ≡ 0) × Other circuits x i
+Inv-loop circuits m place₀ met j x r i₀ place i = (i ≤ j) × (place ≡ 0) × Other circuits x i
 
 abbrev μ-loop : tie.MeasureT-loop
-μ-loop circuits m place₀ most j x i₀ place i = j - i
+μ-loop circuits m place₀ met j x r i₀ place i = j - i
 
 abbrev Inv-loop2 : tie.InvT-loop2
 Inv-loop2 = Inv-loop
@@ -45,14 +61,14 @@ abbrev μ-loop2 : tie.MeasureT-loop2
 μ-loop2 = μ-loop
 
 abbrev Inv-pairs : tie.InvT-pairs
-Inv-pairs circuits m place₀ most₀ j₀ place most j =
-    (j ≤ m) × (place ≡ 0) × ((i : ℕ) → i < j → repeats circuits i ≡ false) × UpTo circuits most j
+Inv-pairs circuits m place₀ met₀ j₀ place met j =
+    (j ≤ m) × (place ≡ 0) × ((i : ℕ) → i < j → repeats circuits i ≡ false) × Marked circuits met j
 
 abbrev μ-pairs : tie.MeasureT-pairs
-μ-pairs circuits m place₀ most₀ j₀ place most j = m - j
+μ-pairs circuits m place₀ met₀ j₀ place met j = m - j
 
 pairs-holds : tie.Need-pairs-holds Inv-loop μ-loop Inv-loop2 μ-loop2 Inv-pairs μ-pairs
-pairs-holds c = (search needs, refl, λ i h. absurd (omega arith), λ i h. absurd (omega arith))
+pairs-holds c = (search needs, refl, λ i h. absurd (omega arith), none-marked (c .before .args .circuits .now))
 
 loop-holds : tie.Need-loop-holds Inv-loop μ-loop Inv-loop2 μ-loop2 Inv-pairs μ-pairs
 loop-holds c =
@@ -61,8 +77,8 @@ loop-holds c =
     let s = k .before .before .before .before .args .circuits .now in
     let x = k .circuit-at .result .number in
     ⊎-elim
-    (λ w. (omega (arith, w .2), o .inv .1, λ d h. above s (o .most) x (o .j) (o .inv .3) (w .0 .taken) d (omega (arith, w .2))))
-    (λ w. (omega (arith, w .2), o .inv .1, λ d h. absurd (omega (arith, w .2))))
+    (λ w. (omega (arith, w .1), o .inv .1, λ d h. absurd (omega (arith, w .1))))
+    (λ w. (omega (arith, w .1), o .inv .1, λ d h. unmarked s (o .met) x (o .j) (o .inv .3) (w .0 .left) d (omega (arith, w .1))))
     (c .if1 .came)
 
 loop-again : tie.Need-loop-again Inv-loop μ-loop Inv-loop2 μ-loop2 Inv-pairs μ-pairs
@@ -90,22 +106,16 @@ pairs-again : tie.Need-pairs-again Inv-loop μ-loop Inv-loop2 μ-loop2 Inv-pairs
 unfolding repeats
 pairs-again c =
     let l = c .before .loop2 in
-    let f = c .before .before .before .before in
-    let k = f .before in
+    let k = c .before .before .before .before .before in
     let o = k .before .before .pairs in
     let s = k .before .before .before .before .args .circuits .now in
     let e = number-is s (o .j) _ (k .circuit-at .ensures) in
     let others : Other s (numberIn s (o .j)) (o .j) =
-    λ d h. ap (λ (x : ℕ). hasNumber s x d) (sym e) ∙ l .inv .2 d (omega (arith, c .loop2-test .left)) in
-    let grown : (o .most ≤ f .if1 .most) × (numberIn s (o .j) ≤ f .if1 .most) =
-    ⊎-elim
-    (λ w. (omega (arith, w .1, w .0 .taken), omega (arith, w .1, e)))
-    (λ w. (omega (arith, w .1), omega (arith, w .1, w .0 .left, e)))
-    (f .if1 .came) in (
+    λ d h. ap (λ (x : ℕ). hasNumber s x d) (sym e) ∙ l .inv .2 d (omega (arith, c .loop2-test .left)) in (
       search needs,
       l .inv .1,
       none-more (repeats s) (o .j) (o .inv .2) (any-none (hasNumber s (numberIn s (o .j))) (o .j) others),
-      up-to-more s (o .most) (f .if1 .most) (o .j) (o .inv .3) (grown .0) (grown .1),
+      marked-more s (o .met) (k .circuit-at .result .number) (o .j) (o .inv .3) e,
     )
 
 -- where the ways out of the loops meet: no record repeats and the place is 0, or the place is that of the first that does
@@ -121,9 +131,9 @@ found s m j i place h before l e p =
     inr (omega arith, omega arith, ap (Refused 7) p ∙ refused-at (repeats s) 7 m m j h hit before)
 
 -- and one of the two it is
-met : (c : tie.Left-pairs Inv-loop μ-loop Inv-loop2 μ-loop2 Inv-pairs μ-pairs)
+out : (c : tie.Left-pairs Inv-loop μ-loop Inv-loop2 μ-loop2 Inv-pairs μ-pairs)
     → Out (c .before .before .before .args .circuits .now) (c .before .before .before .args .m) (c .pairs-test .place)
-met c =
+out c =
     let o = c .before .pairs in
     let a = c .before .before .before .args in
     let s = a .circuits .now in
@@ -141,13 +151,13 @@ met c =
     (c .pairs-test .came)
 
 returns : tie.Need-returns Inv-loop μ-loop Inv-loop2 μ-loop2 Inv-pairs μ-pairs
-returns c = ⊎-elim (λ w. w .1) (λ w. absurd (omega (arith, w .0, c .if4 .taken))) (met (c .before))
+returns c = ⊎-elim (λ w. w .1) (λ w. absurd (omega (arith, w .0, c .if4 .taken))) (out (c .before))
 
-cast-t16 : tie.Need-cast-t16 Inv-loop μ-loop Inv-loop2 μ-loop2 Inv-pairs μ-pairs
-cast-t16 c = ⊎-elim (λ w. omega (arith, w .0)) (λ w. omega (arith, w .1)) (met (c .before .before))
+cast-t23 : tie.Need-cast-t23 Inv-loop μ-loop Inv-loop2 μ-loop2 Inv-pairs μ-pairs
+cast-t23 c = ⊎-elim (λ w. omega (arith, w .0)) (λ w. omega (arith, w .1)) (out (c .before .before))
 
 returns-2 : tie.Need-returns-2 Inv-loop μ-loop Inv-loop2 μ-loop2 Inv-pairs μ-pairs
-returns-2 c = ⊎-elim (λ w. absurd (c .before .if4 .left (w .0))) (λ w. w .2) (met (c .before .before))
+returns-2 c = ⊎-elim (λ w. absurd (c .before .if4 .left (w .0))) (λ w. w .2) (out (c .before .before))
 
 pub unlike-spec : {M : Type 1} → statement M
 unlike-spec =
@@ -161,6 +171,9 @@ unlike-spec =
     μ-pairs
     pairs-holds
     (λ c κs. search needs)
+    (λ c. search needs)
+    (λ c. search needs)
+    (λ c. search needs)
     loop-holds
     (λ c. search needs)
     (λ c κs. search needs)
@@ -178,5 +191,5 @@ unlike-spec =
     (λ c. search needs)
     pairs-again
     returns
-    cast-t16
+    cast-t23
     returns-2)

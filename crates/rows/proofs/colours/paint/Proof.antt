@@ -7,12 +7,12 @@ use lib.ListN.{length}
 use Rattle.records.specs.Bytes.{cellsOf}
 use Rattle.records.proofs.CellLaws.{length-cellsOf, stored}
 use Rattle.rows.proofs.Written.{Written, written-start, written-turn}
-use Rattle.rows.proofs.ColourLaws.{oneColour, paint-done}
+use Rattle.rows.proofs.ColourLaws.{oneRow, paint-done}
 use Rattle.rows.proofs.colours.paint.Statement.{statement}
 use Rattle.rows.proofs.colours.paint.Tie as tie
 
 abbrev Inv-loop : tie.InvT-loop
-Inv-loop lasts₀ n start past v i₀ lasts i = (i ≤ max start past) × Written (oneColour v) start i (cellsOf lasts₀) (cellsOf lasts) × (length lasts ≡ length lasts₀)
+Inv-loop lasts₀ n start past v i₀ lasts i = (i ≤ max start past) × Written (oneRow v) start i (cellsOf lasts₀) (cellsOf lasts) × (length lasts ≡ length lasts₀)
 
 abbrev μ-loop : tie.MeasureT-loop
 μ-loop lasts₀ n start past v i₀ lasts i = past - i
