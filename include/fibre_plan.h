@@ -1,6 +1,6 @@
 /* A fibre planner that is proved: every circuit of a line gets a fibre and a wavelength.
  *
- * Build the archive with `rt staticlib exports`, and link target/staticlib/libexports.a (x86-64).
+ * Build the archive with `rt staticlib exports`, and link target/staticlib/libexports.a (x86-64 Linux).
  * The function keeps nothing between calls and allocates nothing; several threads may call it at
  * the same time, each with areas of its own.
  *
@@ -70,7 +70,7 @@ typedef struct fibre_plan_answer {
  * left as it was, and a refusal changes no byte.
  *
  * The caller sees to it that each pointer is to so many bytes (and is not NULL, not even where the
- * length is 0), that the four areas do not overlap, and that nobody else uses the three that are
+ * length is 0, as malloc(0) or the data() of an empty std::vector may be), that the four areas do not overlap, and that nobody else uses the three that are
  * written, or writes to the circuits, during the call. */
 fibre_plan_answer fibre_plan(size_t links, size_t wavelengths,
                              const uint8_t *circuits, size_t circuits_len,

@@ -66,7 +66,7 @@ shown-blues k d h =
     (λ g. ap (λ (c : ℕ). eqb c blue) (shown-open k d g) ∙ sym (ne-eqb d blueRow e)))
 
 -- A SEARCH IN CELLS is one in links: link x has cell x - 1
-links-sought : (b : Bounds) (q : ℕ → Bool) (n start r : ℕ) (C : List ℕ) → 1 ≤ start → start ≤ n + 1 → ((x : ℕ) → 1 ≤ x → x ≤ n → within b (at C x) ≡ q x)
+pub links-sought : (b : Bounds) (q : ℕ → Bool) (n start r : ℕ) (C : List ℕ) → 1 ≤ start → start ≤ n + 1 → ((x : ℕ) → 1 ≤ x → x ≤ n → within b (at C x) ≡ q x)
     → r ≡ seek (cellWithin b C) (start - 1) (n - (start - 1)) → r + 1 ≡ seek q start (n + 1 - start)
 unfolding cellWithin at
 links-sought b q n zero r C pos le h e = absurd (omega arith)

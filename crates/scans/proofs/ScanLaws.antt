@@ -1,4 +1,4 @@
--- What the tests of a cell say, and how far a search has come. Assumes nothing.
+-- What the tests of a cell say, and how a search goes on. Assumes nothing.
 use Prim.Native.Nat.{ℕ, _+_, _-_, _*_, _%_, _<_, _≤_}
 use borrow.Author.Tests.{le-leb, lt-leb, not-true}
 use lib.Dec.{leb}
@@ -9,11 +9,11 @@ use mathlib.Core.Path.{_≡_, ap, _∙_, sym}
 use native.Mathlib.Omega.{arith}
 use Rattle.basics.specs.Tools.{any, seek}
 use Rattle.basics.proofs.Bools.{and-false, and-of, by-le}
-use Rattle.basics.proofs.Searches.{seek-skip}
+use Rattle.basics.proofs.Searches.{seek-here, seek-skip}
 use Rattle.records.specs.Bytes.{cell, cellsOf}
 use Rattle.records.proofs.CellLaws.{cell-is}
 use Rattle.scans.specs.declared.Bounds.{Bounds}
-use Rattle.scans.specs.Scans.{bothWithin, cellWithin, within}
+use Rattle.scans.specs.Scans.{CameTo, bothWithin, cellWithin, within}
 
 -- not below the bounds, and not above them
 pub within-hit : (b : Bounds) (x : ℕ) → b .low ≤ x → leb x (b .high) ≡ true → within b x ≡ true
@@ -49,10 +49,10 @@ pub read-both : (a b : Bounds) (s t : List ℕ) (p x y : ℕ) → 2 * p + 1 < le
 unfolding bothWithin
 read-both a b s t p x y h k e f = rw (read-within a s p x h e, read-within b t p y k f)
 
--- the search from `from` to before `to` has come to place i
-abbrev pub CameTo : (ℕ → Bool) → ℕ → ℕ → ℕ → Type 0
-CameTo p from to i = (from ≤ i) × (i ≤ to) × (seek p i (to - i) ≡ seek p from (to - from))
-
 -- r tells that none of the next k places passes: it has come to place i + k
 pub came-skip : (p : ℕ → Bool) (from to i k : ℕ) (r : Bool) → CameTo p from to i → i + k ≤ to → r ≡ any (λ x. p (i + x)) k → not r ≡ true → CameTo p from to (i + k)
 came-skip p from to i k r c h e q = (omega (arith, c .0), h, sym (seek-skip p i k to h (sym e ∙ not-true r q)) ∙ c .2)
+
+-- place i passes: it is found
+pub came-here : (p : ℕ → Bool) (from to i : ℕ) → CameTo p from to i → i < to → p i ≡ true → i ≡ seek p from (to - from)
+came-here p from to i c h q = sym (seek-here p i to h q) ∙ c .2

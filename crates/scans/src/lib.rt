@@ -5,7 +5,7 @@ ghost use Prim.Native.Nat.{_+_, _-_, _*_, _≤_};
 ghost use lib.ListN.{length};
 ghost use Rattle.basics.specs.Tools.{any, seek};
 ghost use Rattle.records.specs.Bytes.{cellsOf};
-ghost use Rattle.scans.specs.Scans.{within, cellWithin, bothWithin};
+ghost use Rattle.scans.specs.Scans.{within, cellWithin, bothWithin, CameTo};
 
 // The numbers from `low` to `high`.
 pub struct Bounds {
@@ -13,7 +13,7 @@ pub struct Bounds {
     pub high: u16,
 }
 
-// Whether one of the 16 cells from cell i on lies within the bounds.
+// Whether one of the 16 cells from cell i on lies within the bounds. The two comparisons are written out, since `inside` asks that low ≤ high.
 fn any_of_16(cells: &[u8], i: usize, b: Bounds) -> bool
     requires { ⌜ (2 * (i + 16) ≤ length (now cells)) × (i ≤ 65535) ⌝ }
     ensures { λ r. ⌜ r ≡ any (λ k. cellWithin b (cellsOf (now (cells .entry))) (i + k)) 16 ⌝ }
@@ -30,15 +30,24 @@ fn any_of_16(cells: &[u8], i: usize, b: Bounds) -> bool
     hit
 }
 
-// The first cell from cell `from` to before cell `to` that lies within the bounds, or `to`.
-pub fn first_within(cells: &[u8], from: usize, to: usize, b: Bounds) -> usize
+// How far the search may go in whole chunks of 16 that have no cell within the bounds.
+fn skip_16(cells: &[u8], from: usize, to: usize, b: Bounds) -> usize
     requires { ⌜ (2 * to ≤ length (now cells)) × (from ≤ to) × (to ≤ 65535) ⌝ }
-    ensures { λ r. ⌜ r ≡ seek (cellWithin b (cellsOf (now (cells .entry)))) from (to - from) ⌝ }
+    ensures { λ r. ⌜ CameTo (cellWithin b (cellsOf (now (cells .entry)))) from to r ⌝ }
 {
     let mut i = from;
     while i + 16 <= to && !any_of_16(cells, i, b) {
         i += 16;
     }
+    i
+}
+
+// The first cell from cell `from` to before cell `to` that lies within the bounds, or `to`.
+pub fn first_within(cells: &[u8], from: usize, to: usize, b: Bounds) -> usize
+    requires { ⌜ (2 * to ≤ length (now cells)) × (from ≤ to) × (to ≤ 65535) ⌝ }
+    ensures { λ r. ⌜ r ≡ seek (cellWithin b (cellsOf (now (cells .entry)))) from (to - from) ⌝ }
+{
+    let mut i = skip_16(cells, from, to, b);
     while i < to {
         let x = records::cells::get(cells, i);
         if b.low <= x && x <= b.high {
@@ -64,8 +73,7 @@ fn one_if(t: bool) -> u16
     if t { 1 } else { 0 }
 }
 
-// Whether, of the 32 pairs of cells from place p on, one has its cell of the first column within a and that of the second within b. The hits are counted, since
-// a count is what the machine adds up in many places at once.
+// Whether one of the 32 places from p on has its cells within a and b; hits are counted, since the machine adds up counts in many places at once.
 fn any_of_32(firsts: &[u8], lasts: &[u8], p: usize, a: Bounds, b: Bounds) -> bool
     requires { ⌜ (2 * (p + 32) ≤ length (now firsts)) × (2 * (p + 32) ≤ length (now lasts)) × (p ≤ 65535) × (a .low ≤ a .high) × (b .low ≤ b .high) ⌝ }
     ensures { λ r. ⌜ r ≡ any (λ k. bothWithin a b (cellsOf (now (firsts .entry))) (cellsOf (now (lasts .entry))) (p + k)) 32 ⌝ }
@@ -81,15 +89,24 @@ fn any_of_32(firsts: &[u8], lasts: &[u8], p: usize, a: Bounds, b: Bounds) -> boo
     hits != 0
 }
 
-// The first place from `from` to before `to` whose cell of the first column lies within a and that of the second within b, or `to`.
-pub fn first_fit(firsts: &[u8], lasts: &[u8], from: usize, to: usize, a: Bounds, b: Bounds) -> usize
+// How far the search may go in whole chunks of 32 that have no place with its cells within a and b.
+fn skip_32(firsts: &[u8], lasts: &[u8], from: usize, to: usize, a: Bounds, b: Bounds) -> usize
     requires { ⌜ (2 * to ≤ length (now firsts)) × (2 * to ≤ length (now lasts)) × (from ≤ to) × (to ≤ 65535) × (a .low ≤ a .high) × (b .low ≤ b .high) ⌝ }
-    ensures { λ r. ⌜ r ≡ seek (bothWithin a b (cellsOf (now (firsts .entry))) (cellsOf (now (lasts .entry)))) from (to - from) ⌝ }
+    ensures { λ r. ⌜ CameTo (bothWithin a b (cellsOf (now (firsts .entry))) (cellsOf (now (lasts .entry)))) from to r ⌝ }
 {
     let mut p = from;
     while p + 32 <= to && !any_of_32(firsts, lasts, p, a, b) {
         p += 32;
     }
+    p
+}
+
+// The first place from `from` to before `to` whose cell of the first column lies within a and that of the second within b, or `to`.
+pub fn first_fit(firsts: &[u8], lasts: &[u8], from: usize, to: usize, a: Bounds, b: Bounds) -> usize
+    requires { ⌜ (2 * to ≤ length (now firsts)) × (2 * to ≤ length (now lasts)) × (from ≤ to) × (to ≤ 65535) × (a .low ≤ a .high) × (b .low ≤ b .high) ⌝ }
+    ensures { λ r. ⌜ r ≡ seek (bothWithin a b (cellsOf (now (firsts .entry))) (cellsOf (now (lasts .entry)))) from (to - from) ⌝ }
+{
+    let mut p = skip_32(firsts, lasts, from, to, a, b);
     while p < to {
         let x = records::cells::get(firsts, p);
         let y = records::cells::get(lasts, p);

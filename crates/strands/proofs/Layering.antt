@@ -10,9 +10,9 @@ use Rattle.records.specs.Bytes.{cellsOf, setCell}
 use Rattle.records.proofs.CellLaws.{length-cellsOf, stored}
 use Rattle.method.specs.Fibres.{twice}
 use Rattle.method.specs.Sheet.{at}
-use Rattle.strands.specs.Layers.{Fit, Spared, layerBy, layersBy, putPairs}
+use Rattle.strands.specs.Layers.{Spared, layerBy, layersBy, putPairs}
 use Rattle.strands.specs.Lists.{fibreRecords}
-use Rattle.strands.proofs.Same.{at-kept, fit-kept, layer-agrees}
+use Rattle.strands.proofs.Same.{at-kept, layer-agrees}
 use Rattle.strands.proofs.Walk.{layers-grow, length-more}
 use Rattle.strands.proofs.Written.{layers-turn, putPairs-all}
 
@@ -51,11 +51,7 @@ module _ (n m top from : ℕ) (b₀ out₀ : List ℕ) (long₀ : length b₀ �
               (λ z. getD-set-other (cellsOf b) (2 * n + m + h) (2 * n + m + k) many 0 (omega arith) ∙ g .spare .starts k (omega arith));
         }
 
-    -- c(i) of each link is still there
-    pub needs-fit : Fit n (cellsOf b₀) → Fit n (cellsOf b₁)
-    needs-fit f = fit-kept (cellsOf b₀) (cellsOf b₁) n (2 * n + m) (omega arith) (spare-more .kept) f
-
-    -- so the next layer is the same
+    -- c(i) of each link is still there, so the next layer is the same
     next-layer : layerBy (at (cellsOf b₁)) n top (h + 1) ≡ layerBy (at (cellsOf b₀)) n top (h + 1)
     next-layer = layer-agrees (at (cellsOf b₁)) (at (cellsOf b₀)) n top (h + 1) (at-kept (cellsOf b₀) (cellsOf b₁) n (2 * n + m) (omega arith) (spare-more .kept))
 

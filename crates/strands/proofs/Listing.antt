@@ -31,7 +31,7 @@ assignments-listed : assignmentList 5 2 0 (circuitsIn 4 file) [] ≡ encode (10 
 unfolding file encode assignmentRecord assignmentRecords assignmentList circuitsIn count any every seek each sum top better lowest uses overlap at circuit load need runFrom runPast inRun fits paint chosen act step steps most redTo fresh begun row sheet rows join runs spanLength over total find twice layerOf wavelengthOf together onFirstBy onFirst inLayer layer layers pairs fibres floor pairOf given assignments
 assignments-listed = refl
 
--- a work area that phase one may leave: c(i), colours, rows, spare
+-- a work area that phase one may leave: c(i), what nobody reads, rows, spare
 area : List ℕ
 area = encode (1 ∷ 2 ∷ 1 ∷ 1 ∷ 1 ∷ 2 ∷ 1 ∷ 2 ∷ 2 ∷ 2 ∷ 4 ∷ 3 ∷ 3 ∷ 4 ∷ 0 ∷ 0 ∷ 0 ∷ 0 ∷ [])
 

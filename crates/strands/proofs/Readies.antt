@@ -1,5 +1,5 @@
 -- What phase one leaves is enough for phase two, and what the work area and the fibre list are when the assignments are written. Assumes nothing.
-use Prim.Native.Nat.{ℕ, suc, _+_, _*_, _≤_}
+use Prim.Native.Nat.{ℕ, _+_, _*_, _≤_}
 use mathlib.Core.Bool.{Bool, cond}
 use mathlib.Core.Path.{_≡_, sym, ap, _∙_}
 use mathlib.Core.List.{List, _++_}
@@ -7,7 +7,6 @@ use native.Mathlib.Omega.{arith}
 use lib.ListN.{length, getD}
 use lib.Seq.{getD-drop}
 use Rattle.basics.specs.Tools.{part}
-use Rattle.basics.proofs.Counts.{le-top}
 use Rattle.basics.proofs.Tables.{getD-part, part-kept}
 use Rattle.records.specs.Bytes.{cellsOf}
 use Rattle.records.specs.Records.{circuitsIn}
@@ -23,7 +22,7 @@ use Rattle.method.proofs.ValidPlan.{first-any-run}
 use Rattle.halves.specs.Halves.{FewRows, OneEnd, Halved}
 use Rattle.rows.specs.Accepted.{Accepted}
 use Rattle.rows.specs.Filled.{Filled}
-use Rattle.strands.specs.Layers.{Fit, Spared, layersBy}
+use Rattle.strands.specs.Layers.{Spared, layersBy}
 use Rattle.strands.specs.Lists.{fibreRecords}
 use Rattle.strands.specs.Area.{Marked, Strung}
 use Rattle.method.proofs.Given.{ends-differ, most-few}
@@ -46,17 +45,6 @@ module _ (n w m top : ℕ) (s b : List ℕ) (acc : Accepted n w m s) (fil : Fill
   -- M is at most the number of circuits
   pub top-few : top ≤ m
   top-few = omega (arith, most-few n w cs (acc .waves .0), length-circuitsIn m s)
-
-  -- each c(i) is a number of two bytes
-  pub fit-first : Fit n C
-  unfolding Fit
-  fit-first k h =
-      let a : at C (suc k) ≡ need w cs (suc k) = needs-are (suc k) (omega arith) (omega arith) in
-      let z : getD C k 0 ≡ at C (suc k) = (unfold at in λ i. getD C k 0) in
-      let f = acc .few in
-      let g = top-few in
-      let q : need w cs (suc k) ≤ most n w cs = (unfold most in le-top (need w cs) n (suc k) (omega arith) (omega arith)) in
-      omega arith
 
   -- the layers by c(i) are the method's
   pub layers-are : (h : ℕ) → layersBy (at C) n top h ≡ layers n w cs h

@@ -14,7 +14,7 @@ use Rattle.records.specs.declared.Circuit.{Circuit}
 use Rattle.method.specs.Fibres.{floor, inLayer, layer, layers, runs}
 use Rattle.method.specs.Line.{Fibre}
 use Rattle.method.specs.Sheet.{at, most, need}
-use Rattle.strands.specs.Layers.{Fit, reaches, layerBy, layersBy}
+use Rattle.strands.specs.Layers.{reaches, layerBy, layersBy}
 
 -- runs of the same links are the same
 runs-same : (h : ℕ) (p q : ℕ → Bool) (i k : ℕ) → ((x : ℕ) → i ≤ x → x < i + k → p x ≡ q x) → runs h p i k ≡ runs h q i k
@@ -59,8 +59,3 @@ pub at-kept : (C C' : List ℕ) (n k : ℕ) → n ≤ k → take k C' ≡ take k
 unfolding at
 at-kept C C' n k h e zero a b = absurd (omega arith)
 at-kept C C' n k h e (suc i) a b = sym (getD-take k C' i 0 (omega arith)) ∙ ap (λ l. getD l i 0) e ∙ getD-take k C i 0 (omega arith)
-
--- and still are numbers of two bytes
-pub fit-kept : (C C' : List ℕ) (n k : ℕ) → n ≤ k → take k C' ≡ take k C → Fit n C → Fit n C'
-unfolding Fit
-fit-kept C C' n k h e f i b = omega (arith, sym (getD-take k C' i 0 (omega arith)) ∙ ap (λ l. getD l i 0) e ∙ getD-take k C i 0 (omega arith), f i b)

@@ -1,6 +1,6 @@
 -- The layers by c(i) alone: f i is c(i), and the layers are 1 to `top`. These follow `layer` and `layers` of the method, and how their pairs are written.
 -- Assumes nothing.
-use Prim.Native.Nat.{ℕ, zero, suc, _+_, _-_, _*_, _≤_, _<_}
+use Prim.Native.Nat.{ℕ, zero, suc, _+_, _-_, _*_, _<_}
 use mathlib.Core.Bool.{Bool}
 use mathlib.Core.List.{List, [], _∷_, _++_}
 use mathlib.Core.Path.{_≡_}
@@ -11,10 +11,6 @@ use Rattle.method.specs.Fibres.{runs}
 use Rattle.method.specs.Line.{Fibre}
 use Rattle.method.specs.Sheet.{at}
 use Rattle.strands.specs.Lists.{fibreRecord}
-
--- each c(i), in the first n cells, is a number of two bytes
-unfoldable pub Fit : ℕ → List ℕ → Type 0
-Fit n C = (k : ℕ) → k < n → getD C k 0 ≤ 65535
 
 -- whether link i reaches t: c(i) is t or more
 unfoldable pub reaches : (ℕ → ℕ) → ℕ → ℕ → Bool
@@ -29,7 +25,7 @@ unfoldable pub layersBy : (ℕ → ℕ) → ℕ → ℕ → ℕ → List Fibre
 layersBy f n top zero = []
 layersBy f n top (suc h) = layersBy f n top h ++ layerBy f n top (suc h)
 
--- the spare cells C' have, for each of the first k layers, the number of pairs before it; the cells before them are as in C
+-- the spare cells of C' have, for each of the first k layers, the number of pairs before it; the cells before them are as in C
 pub record Spared (n m top k : ℕ) (C C' : List ℕ) : Type 0 where
   pub kept : take (2 * n + m) C' ≡ take (2 * n + m) C
   pub starts : (h : ℕ) → h < k → getD C' (2 * n + m + h) 0 ≡ length (layersBy (at C) n top h)

@@ -1,11 +1,11 @@
 // The assignment list.
-use crate::needs;
 ghost use mathlib.Core.Path.{_≡_};
 ghost use mathlib.Core.List.{_++_};
 ghost use Prim.Native.Nat.{_+_, _*_, _-_, _≤_, _<_};
 ghost use lib.Dec.{leb};
-ghost use lib.ListN.{length, drop};
+ghost use lib.ListN.{length, getD, drop};
 ghost use Rattle.basics.specs.Tools.{seek};
+ghost use Rattle.records.specs.Bytes.{cellsOf};
 ghost use Rattle.records.specs.Records.{circuitsIn, fibreOf, putRecord, recordAt};
 ghost use Rattle.method.specs.Fibres.{assignments};
 ghost use Rattle.method.specs.Line.{circuit};
@@ -35,6 +35,14 @@ fn pair_over(fibres: &[u8], start: usize, pairs: usize, x: u16) -> usize
     i
 }
 
+// Cell k, as one of the list of cells.
+fn cell_at(work: &[u8], k: usize) -> u16
+    requires { ⌜ 2 * k + 1 < length (now work) ⌝ }
+    ensures { λ r. ⌜ r ≡ getD (cellsOf (now (work .entry))) k 0 ⌝ }
+{
+    records::cells::get(work, k)
+}
+
 // The fibre, as counted in the plan, and the wavelength of circuit j.
 fn place_of(
     circuits: &[u8],
@@ -54,10 +62,10 @@ fn place_of(
         × (r .fibre ≤ 2 * m) × (r .wavelength ≤ 65535) ⌝ }
 {
     let c = records::circuit_at(circuits, j);
-    let v = records::numbers::index(needs::cell_at(work, 2 * n + j));
+    let v = records::numbers::index(cell_at(work, 2 * n + j));
     let row = v / 2;
     let q = (row - 1) / w;
-    let start = records::numbers::index(needs::cell_at(work, 2 * n + m + q));
+    let start = records::numbers::index(cell_at(work, 2 * n + m + q));
     let pair = pair_over(fibres, start, pairs, c.first);
     Place {
         fibre: 2 * pair + 1 + v % 2,

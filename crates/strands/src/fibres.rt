@@ -8,7 +8,7 @@ ghost use Rattle.records.specs.Bytes.{cellsOf};
 ghost use Rattle.method.specs.Fibres.{twice};
 ghost use Rattle.method.specs.Sheet.{at};
 ghost use Rattle.strands.specs.Lists.{fibreRecords};
-ghost use Rattle.strands.specs.Layers.{Fit, Spared, putFibre, putPair, putPairs, layerBy, layersBy};
+ghost use Rattle.strands.specs.Layers.{Spared, putFibre, putPair, putPairs, layerBy, layersBy};
 
 // One fibre at place k of the list.
 fn put_one(out: &mut [u8], from: usize, k: usize, first: usize, last: usize, layer: usize)
@@ -45,7 +45,7 @@ fn one_layer(
     many: usize,
     out: &mut [u8],
 ) -> usize
-    requires { ⌜ (2 * n ≤ length (now work)) × (n ≤ 512) × (1 ≤ h) × (h ≤ top) × (top ≤ 65535) × Fit n (cellsOf (now work)) ⌝ }
+    requires { ⌜ (2 * n ≤ length (now work)) × (n ≤ 512) × (1 ≤ h) × (h ≤ top) × (top ≤ 65535) ⌝ }
     requires { ⌜ 8 * (many + 2 * length (layerBy (at (cellsOf (now work))) n top h)) ≤ length (now out) ⌝ }
     requires { ⌜ from + (many + 2 * length (layerBy (at (cellsOf (now work))) n top h)) ≤ 65535 ⌝ }
     ensures { λ r. ⌜ (r ≡ many + 2 * length (layerBy (at (cellsOf (now (work .entry)))) n top h))
@@ -72,7 +72,7 @@ pub fn write_fibres(
     from: usize,
     out: &mut [u8],
 ) -> usize
-    requires { ⌜ (length (now work) ≡ 4 * n + 4 * m) × (n ≤ 512) × (m ≤ 2048) × (top ≤ m) × Fit n (cellsOf (now work)) ⌝ }
+    requires { ⌜ (length (now work) ≡ 4 * n + 4 * m) × (n ≤ 512) × (m ≤ 2048) × (top ≤ m) ⌝ }
     requires { ⌜ 16 * length (layersBy (at (cellsOf (now work))) n top top) ≤ length (now out) ⌝ }
     requires { ⌜ from + 2 * length (layersBy (at (cellsOf (now work))) n top top) ≤ 65535 ⌝ }
     ensures { λ r. ⌜ (r ≡ length (layersBy (at (cellsOf (now (work .entry)))) n top top))

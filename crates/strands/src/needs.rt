@@ -3,34 +3,23 @@ use scans::Bounds;
 ghost use mathlib.Core.Path.{_≡_};
 ghost use mathlib.Core.Bool.{not};
 ghost use Prim.Native.Nat.{suc, _+_, _*_, _-_, _≤_, _<_};
-ghost use lib.ListN.{length, getD};
+ghost use lib.ListN.{length};
 ghost use Rattle.basics.specs.Tools.{seek, sum};
 ghost use Rattle.records.specs.Bytes.{cellsOf};
 ghost use Rattle.method.specs.Sheet.{at};
-ghost use Rattle.strands.specs.Layers.{Fit, reaches};
+ghost use Rattle.strands.specs.Layers.{reaches};
 
-// Cell k, as one of the list of cells.
-pub fn cell_at(work: &[u8], k: usize) -> u16
-    requires { ⌜ 2 * k + 1 < length (now work) ⌝ }
-    ensures { λ r. ⌜ r ≡ getD (cellsOf (now (work .entry))) k 0 ⌝ }
-{
-    records::cells::get(work, k)
-}
-
-// c(i); off the line, at 0, none.
+// c(i).
 fn need_at(work: &[u8], i: usize) -> usize
-    requires { ⌜ 2 * i ≤ length (now work) ⌝ }
+    requires { ⌜ (1 ≤ i) × (2 * i ≤ length (now work)) ⌝ }
     ensures { λ r. ⌜ (r ≡ at (cellsOf (now (work .entry))) i) × (r < 65536) ⌝ }
 {
-    if i == 0 {
-        return 0;
-    }
     records::numbers::index(records::cells::get(work, i - 1))
 }
 
 // The first link from i on that reaches t, or n + 1.
 pub fn next_run(work: &[u8], n: usize, i: usize, t: u16) -> usize
-    requires { ⌜ (2 * n ≤ length (now work)) × (n ≤ 512) × (1 ≤ i) × (i ≤ n + 1) × Fit n (cellsOf (now work)) ⌝ }
+    requires { ⌜ (2 * n ≤ length (now work)) × (n ≤ 512) × (1 ≤ i) × (i ≤ n + 1) ⌝ }
     ensures { λ r. ⌜ r ≡ seek (reaches (at (cellsOf (now (work .entry)))) t) i (suc n - i) ⌝ }
 {
     let b = Bounds {

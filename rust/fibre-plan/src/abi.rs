@@ -35,7 +35,7 @@ pub fn call(
     work: &mut [u8],
 ) -> PlanAnswer {
     // SAFETY: the function takes every input; each pointer and length are those of a slice that is
-    // borrowed for the call, and the three that are written are disjoint, being `&mut`.
+    // borrowed for the call, and the three that are written, being `&mut`, overlap nothing.
     unsafe {
         fibre_plan(
             links,
@@ -49,5 +49,27 @@ pub fn call(
             work.as_mut_ptr(),
             work.len(),
         )
+    }
+}
+
+#[cfg(test)]
+mod tests {
+    use super::call;
+
+    const CIRCUIT: [u8; 8] = [7, 0, 0, 0, 1, 0, 1, 0];
+
+    #[test]
+    fn a_plan_has_no_refusal_and_no_place() {
+        let answer = call(1, 1, &CIRCUIT, &mut [1; 16], &mut [1; 8], &mut [1; 8]);
+        assert_eq!((answer.refusal, answer.place), (0, 0));
+        assert_eq!((answer.fibres, answer.total, answer.floor), (2, 2, 1));
+    }
+
+    #[test]
+    fn a_refusal_has_three_zeros() {
+        let file = [CIRCUIT, CIRCUIT].concat();
+        let answer = call(1, 1, &file, &mut [1; 32], &mut [1; 16], &mut [1; 12]);
+        assert_eq!((answer.refusal, answer.place), (7, 2));
+        assert_eq!((answer.fibres, answer.total, answer.floor), (0, 0, 0));
     }
 }

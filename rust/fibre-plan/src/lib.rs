@@ -92,8 +92,8 @@ pub const fn work_bytes(links: usize, circuits: usize) -> usize {
 /// The first [`Refusal`] of the table that applies: one of 2 to 7, since the records are whole and
 /// the areas are large enough.
 pub fn plan(links: usize, wavelengths: usize, circuits: &[Circuit]) -> Result<Plan, Refusal> {
-    let bytes = records::encode(circuits);
-    // Past the limits the answer is a refusal, which needs no room.
+    // Past the limits the answer is a refusal, which needs neither the other circuits nor room.
+    let bytes = records::encode(&circuits[..circuits.len().min(MAX_CIRCUITS + 1)]);
     let many = circuits.len().min(MAX_CIRCUITS);
     let mut fibres = vec![0; fibre_bytes(many)];
     let mut assignments = vec![0; assignment_bytes(many)];

@@ -4,6 +4,7 @@ use std::fmt;
 
 /// Why an input was refused. A place is that of a circuit, counted from 1.
 #[derive(Clone, Copy, Debug, PartialEq, Eq, Hash)]
+#[non_exhaustive]
 pub enum Refusal {
     /// 1: the circuit bytes are not a multiple of 8.
     Records,
@@ -34,6 +35,13 @@ pub enum Refusal {
     AssignmentRoom,
     /// 10: the work area has fewer than 4 bytes a link and 4 bytes a circuit.
     WorkRoom,
+    /// A refusal of an archive that is newer than this crate.
+    Other {
+        /// Its number.
+        number: u32,
+        /// Its place.
+        place: usize,
+    },
 }
 
 impl Refusal {
@@ -50,11 +58,11 @@ impl Refusal {
             8 => Self::FibreRoom,
             9 => Self::AssignmentRoom,
             10 => Self::WorkRoom,
-            _ => unreachable!("the contract of the archive gives no refusal but 1 to 10"),
+            _ => Self::Other { number, place },
         }
     }
 
-    /// Its number in the table, 1 to 10.
+    /// Its number in the table.
     pub fn number(self) -> u32 {
         match self {
             Self::Records => 1,
@@ -67,13 +75,17 @@ impl Refusal {
             Self::FibreRoom => 8,
             Self::AssignmentRoom => 9,
             Self::WorkRoom => 10,
+            Self::Other { number, .. } => number,
         }
     }
 
     /// The circuit that it is about, counted from 1, or 0 where it is about none.
     pub fn place(self) -> usize {
         match self {
-            Self::Zero { place } | Self::Ends { place } | Self::Repeated { place } => place,
+            Self::Zero { place }
+            | Self::Ends { place }
+            | Self::Repeated { place }
+            | Self::Other { place, .. } => place,
             _ => 0,
         }
     }
@@ -91,6 +103,7 @@ impl Refusal {
             Self::FibreRoom => "the fibre list is too short",
             Self::AssignmentRoom => "the assignment list is too short",
             Self::WorkRoom => "the work area is too short",
+            Self::Other { .. } => "this crate has no words for it",
         }
     }
 }

@@ -1,15 +1,15 @@
--- `first_fit`: the search goes on by 32 places, then by one. Assumes nothing.
+-- `first_fit`: the search goes on by one place, from where `skip_32` has come. Assumes nothing.
 use borrow.Author.Needs.{needs}
 use Prim.Native.Nat.{_-_}
 use mathlib.Core.Bool.{_&&_, false}
 use mathlib.Core.Logic.{⊎-elim}
-use mathlib.Core.Path.{_≡_, refl, _∙_, sym}
+use mathlib.Core.Path.{_≡_, _∙_, sym}
 use native.Mathlib.Omega.{arith}
 use Rattle.basics.proofs.Bools.{and-not, and-of, and-then}
-use Rattle.basics.proofs.Searches.{seek-here, seek-onward, seek-over}
+use Rattle.basics.proofs.Searches.{seek-onward, seek-over}
 use Rattle.records.specs.Bytes.{cellsOf}
-use Rattle.scans.specs.Scans.{bothWithin, within}
-use Rattle.scans.proofs.ScanLaws.{CameTo, came-skip, read-both}
+use Rattle.scans.specs.Scans.{CameTo, bothWithin, within}
+use Rattle.scans.proofs.ScanLaws.{came-here, read-both}
 use Rattle.scans.proofs.first_fit.Statement.{statement}
 use Rattle.scans.proofs.first_fit.Tie as tie
 
@@ -19,37 +19,23 @@ Inv-loop firsts lasts from to a b p₀ p = CameTo (bothWithin a b (cellsOf first
 abbrev μ-loop : tie.MeasureT-loop
 μ-loop firsts lasts from to a b p₀ p = to - p
 
-abbrev Inv-loop2 : tie.InvT-loop2
-Inv-loop2 firsts lasts from to a b p₀ p = CameTo (bothWithin a b (cellsOf firsts) (cellsOf lasts)) from to p
-
-abbrev μ-loop2 : tie.MeasureT-loop2
-μ-loop2 firsts lasts from to a b p₀ p = to - p
-
-loop-holds : tie.Need-loop-holds Inv-loop μ-loop Inv-loop2 μ-loop2
-loop-holds c = (search needs, search needs, refl)
-
-loop-again : tie.Need-loop-again Inv-loop μ-loop Inv-loop2 μ-loop2
-loop-again c =
-    let l = c .before .before .before .loop in
-    came-skip _ _ _ (l .p) 32 _ (l .inv) (omega arith) (c .before .any-of-32 .ensures) (c .if1 .taken)
-
-returns : tie.Need-returns Inv-loop μ-loop Inv-loop2 μ-loop2
+returns : tie.Need-returns Inv-loop μ-loop
 returns c =
-    let start = c .before .before .before .before .before .before .before .before .before .before .before .before in
-    let l = c .before .before .before .before .before .before .before .loop2 in
+    let start = c .before .before .before .before .before .before .before .before .before .before .before in
+    let l = c .before .before .before .before .before .before .before .loop in
     let get = c .before .before .before .before .before .get in
     let get2 = c .before .before .before .before .get2 in
     let inside = c .before .before .before .inside in
     let inside2 = c .before .inside2 in
     let a = start .args in
     let v = read-both (a .a) (a .b) (a .firsts .now) (a .lasts .now) (l .p) (get .result) (get2 .result) (omega arith) (omega arith) (get .ensures) (get2 .ensures) in
-    let hit = v ∙ and-of _ _ (sym (inside .ensures) ∙ c .before .before .if2 .taken) (sym (inside2 .ensures) ∙ c .if3 .taken) in
-    sym (seek-here _ (l .p) (a .to) (omega arith) hit) ∙ l .inv .2
+    let hit = v ∙ and-of _ _ (sym (inside .ensures) ∙ c .before .before .if1 .taken) (sym (inside2 .ensures) ∙ c .if2 .taken) in
+    came-here _ _ _ (l .p) (l .inv) (omega arith) hit
 
-loop2-again : tie.Need-loop2-again Inv-loop μ-loop Inv-loop2 μ-loop2
-loop2-again c =
-    let start = c .before .before .before .before .before .before .before .before .before .before in
-    let l = c .before .before .before .before .before .loop2 in
+loop-again : tie.Need-loop-again Inv-loop μ-loop
+loop-again c =
+    let start = c .before .before .before .before .before .before .before .before .before in
+    let l = c .before .before .before .before .before .loop in
     let get = c .before .before .before .get in
     let get2 = c .before .before .get2 in
     let inside = c .before .inside in
@@ -58,13 +44,13 @@ loop2-again c =
     let miss = ⊎-elim {C = within (a .a) (get .result) && within (a .b) (get2 .result) ≡ false}
     (λ w. sym (and-then _ _ _ (sym (inside .ensures) ∙ w .0 .taken) (sym (w .2 .left) ∙ w .1 .ensures)))
     (λ w. sym (and-not _ _ _ (sym (inside .ensures) ∙ w .left) (sym (w .left) ∙ inside .ensures)))
-    (c .if2 .came) in
+    (c .if1 .came) in
     (search needs, search needs, sym (seek-onward _ (l .p) (a .to) (omega arith) (v ∙ miss)) ∙ l .inv .2)
 
-returns-2 : tie.Need-returns-2 Inv-loop μ-loop Inv-loop2 μ-loop2
+returns-2 : tie.Need-returns-2 Inv-loop μ-loop
 returns-2 c =
-    let start = c .before .before .before .before .before .before in
-    let l = c .before .loop2 in
+    let start = c .before .before .before .before .before in
+    let l = c .before .loop in
     let e : start .args .to ≡ l .p = omega arith in
     e ∙ sym (seek-over _ (l .p) (start .args .to) (omega arith)) ∙ l .inv .2
 
@@ -74,15 +60,8 @@ first-fit-spec =
     (tie.spec
     Inv-loop
     μ-loop
-    Inv-loop2
-    μ-loop2
-    loop-holds
-    (λ c. search needs)
     (λ c κs. search needs)
-    (λ c. search needs)
-    (λ c. search needs)
-    loop-again
-    (λ c. search needs)
+    (λ c. c .skip-32 .ensures)
     (λ c κs. search needs)
     (λ c κs. search needs)
     (λ c κs. search needs)
@@ -90,5 +69,5 @@ first-fit-spec =
     returns
     (λ c. search needs)
     (λ c. search needs)
-    loop2-again
+    loop-again
     returns-2)

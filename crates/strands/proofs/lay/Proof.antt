@@ -4,7 +4,7 @@ use Prim.Native.Nat.{_*_}
 use mathlib.Core.Path.{_∙_}
 use native.Mathlib.Omega.{arith}
 use borrow.Rule.Slice.PartMut.{mid-len}
-use Rattle.strands.proofs.Readies.{fit-first, pairs-few, top-few, few-there, one-end, marked, strung}
+use Rattle.strands.proofs.Readies.{pairs-few, top-few, few-there, one-end, marked, strung}
 use Rattle.records.proofs.Parts.{rest-kept}
 use Rattle.strands.proofs.Laying.{all-laid}
 use Rattle.strands.proofs.lay.Statement.{statement}
@@ -15,7 +15,7 @@ write-fibres-requires c κs = let st = c .before .before .before .before .before
     let p = pairs-few (a .n) (a .w) (a .m) (a .top) (a .circuits .now) (a .work .now) acc fil t in
     let f = v .0 in
     let r = v .2 in
-    ((fil .sized, acc .line, acc .few, top-few (a .n) (a .w) (a .m) (a .top) (a .circuits .now) (a .work .now) acc fil t, fit-first (a .n) (a .w) (a .m) (a .top) (a .circuits .now) (a .work .now) acc fil t), (omega arith, omega arith))
+    ((fil .sized, acc .line, acc .few, top-few (a .n) (a .w) (a .m) (a .top) (a .circuits .now) (a .work .now) acc fil t), (omega arith, omega arith))
 
 write-halves-requires : tie.Need-write-halves-requires
 write-halves-requires c κs = let st = c .before .before .before .before .before .before .before .before .before .before .before .before .before .before .before in let a = st .args in let acc = st .pre .0 .0 in let fil = st .pre .0 .1 in let t = st .pre .1 .0 in let v = st .pre .1 .1 in

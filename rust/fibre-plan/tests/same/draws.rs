@@ -123,6 +123,13 @@ pub fn damaged(rng: &mut Rng) -> Input {
     input
 }
 
+/// A file of 2,048 circuits in which record `at` has the number of the record so far before it.
+pub fn repeated(numbers: Numbers, at: usize, distance: usize) -> Input {
+    let number = |i: usize| numbers.of(if i == at { at - distance } else { i });
+    let list: Vec<Circuit> = (0..LARGE.circuits).map(|i| (number(i), 1, 1)).collect();
+    Input::new(1, 1, encode(&list))
+}
+
 /// Circuit numbers of the small inputs: none, and an order that is another byte by byte.
 const NUMBERS: [u32; 4] = [0, 1, 2, 1 << 24];
 

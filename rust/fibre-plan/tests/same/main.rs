@@ -4,7 +4,7 @@ mod draws;
 
 use areas::{Answer, Input, Seen};
 use draws::{accepted, damaged, full_size, rng_of, Size, LARGE, MIDDLE, SMALL};
-use inputs::{encode, Rng};
+use inputs::{encode, Numbers, Rng};
 use reference::{Slip, SLIPS};
 use std::sync::atomic::{AtomicUsize, Ordering};
 use std::thread;
@@ -64,12 +64,12 @@ fn random_small_inputs() {
 
 #[test]
 fn random_middle_inputs() {
-    same_accepted(2, 5_000, MIDDLE);
+    same_accepted(2, 20_000, MIDDLE);
 }
 
 #[test]
 fn random_large_inputs() {
-    same_accepted(3, 150, LARGE);
+    same_accepted(3, 300, LARGE);
 }
 
 #[test]
@@ -102,6 +102,18 @@ fn damaged_inputs_meet_every_refusal() {
     for (number, times) in met.iter().enumerate() {
         let times = times.load(Ordering::Relaxed);
         assert!(times >= 100, "refusal {number} was met only {times} times");
+    }
+}
+
+#[test]
+fn repeats_far_apart() {
+    for numbers in [Numbers::Rising, Numbers::Shuffled] {
+        for distance in [1, 2, 31, 32, 33, 64, 1000, 2047] {
+            for at in [distance, 2047] {
+                let answer = same(&draws::repeated(numbers, at, distance));
+                assert_eq!(answer, Err((7, at + 1)));
+            }
+        }
     }
 }
 

@@ -43,7 +43,7 @@ next-run-requires-2 : tie.Need-next-run-requires-2 Inv-loop μ-loop
 next-run-requires-2 c κs = let l = c .before .before .before .before .before .before in let a = l .before .before .before .before .args in
     let e = c .before .before .before .before in
     let q = going-past (a .h) (a .from) (reaches (at (cellsOf (a .work .now))) (a .top + 1 - a .h)) (a .n) (a .many) (a .out .now) (l .loop .out) (l .loop .many) (l .loop .l) (l .loop .inv) (omega arith) (e .end-run .result) (e .end-run .ensures) in
-    let q₀ = q .0 in let q₁ = q .1 in (omega arith, omega arith, omega arith, omega arith, search needs)
+    let q₀ = q .0 in let q₁ = q .1 in (omega arith, omega arith, omega arith, omega arith)
 
 loop-less : tie.Need-loop-less Inv-loop μ-loop
 loop-less c = let l = c .before .before .before .before .before .before .before in let a = l .before .before .before .before .args in

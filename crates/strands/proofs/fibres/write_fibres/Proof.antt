@@ -5,7 +5,7 @@ use native.Mathlib.Omega.{arith}
 use Rattle.records.specs.Bytes.{cellsOf}
 use Rattle.method.specs.Sheet.{at}
 use Rattle.strands.proofs.Walk.{layers-grow}
-use Rattle.strands.proofs.Layering.{layering-start, layering-turn, layering-end, layer-room, needs-fit, Layering}
+use Rattle.strands.proofs.Layering.{layering-start, layering-turn, layering-end, layer-room, Layering}
 use Rattle.strands.proofs.fibres.write_fibres.Statement.{statement}
 use Rattle.strands.proofs.fibres.write_fibres.Tie as tie
 
@@ -45,8 +45,7 @@ one-layer-requires c κs = let st = c .before .before .before .before .before .b
     let k₁ = c .before .before .before .before .put .kept .0 in
     let s = l .inv .sized in
     let r = layer-room (a .n) (a .m) (a .top) (a .from) (a .work .now) (a .out .now) (omega arith) (omega arith) (l .work) (l .out) (l .h) (l .many) (l .inv) (omega arith) _ (c .before .before .before .before .put .ensures) in
-    let f = needs-fit (a .n) (a .m) (a .top) (a .from) (a .work .now) (a .out .now) (omega arith) (omega arith) (l .work) (l .out) (l .h) (l .many) (l .inv) (omega arith) _ (c .before .before .before .before .put .ensures) (st .pre .0 .4) in
-    ((omega arith, omega arith, omega arith, omega arith, omega arith, f), (omega arith, omega arith))
+    ((omega arith, omega arith, omega arith, omega arith, omega arith), (omega arith, omega arith))
 
 loop-again : tie.Need-loop-again Inv-loop μ-loop
 loop-again c = let st = c .before .before .before .before .before .before .before .before .before .before .before .before .before in let a = st .args in let l = c .before .before .before .before .before .before .before .before .before .before .loop in let o = c .before .before .one-layer in

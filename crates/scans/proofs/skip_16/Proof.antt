@@ -1,0 +1,39 @@
+-- `skip_16`: the search goes on by 16 cells. Assumes nothing.
+use borrow.Author.Needs.{needs}
+use Prim.Native.Nat.{_-_}
+use mathlib.Core.Path.{refl}
+use native.Mathlib.Omega.{arith}
+use Rattle.records.specs.Bytes.{cellsOf}
+use Rattle.scans.specs.Scans.{CameTo, cellWithin}
+use Rattle.scans.proofs.ScanLaws.{came-skip}
+use Rattle.scans.proofs.skip_16.Statement.{statement}
+use Rattle.scans.proofs.skip_16.Tie as tie
+
+abbrev Inv-loop : tie.InvT-loop
+Inv-loop cells from to b i₀ i = CameTo (cellWithin b (cellsOf cells)) from to i
+
+abbrev μ-loop : tie.MeasureT-loop
+μ-loop cells from to b i₀ i = to - i
+
+loop-holds : tie.Need-loop-holds Inv-loop μ-loop
+loop-holds c = (search needs, search needs, refl)
+
+loop-again : tie.Need-loop-again Inv-loop μ-loop
+loop-again c =
+    let l = c .before .before .before .loop in
+    came-skip _ _ _ (l .i) 16 _ (l .inv) (omega arith) (c .before .any-of-16 .ensures) (c .if1 .taken)
+
+pub skip-16-spec : {M : Type 1} → statement M
+skip-16-spec =
+    tie.close
+    (tie.spec
+    Inv-loop
+    μ-loop
+    loop-holds
+    (λ c. search needs)
+    (λ c κs. search needs)
+    (λ c. search needs)
+    (λ c. search needs)
+    loop-again
+    (λ c. c .before .before .before .loop .inv)
+    (λ c. c .before .loop .inv))
