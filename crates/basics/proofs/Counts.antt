@@ -112,7 +112,7 @@ blocks r w (suc F) =
     (on (r F) (λ e. rw e (omega arith)) (λ e. rw e (omega arith)))
 
 -- no fewer pass below a later place
-pub count-mono : (p : ℕ → Bool) (a b : ℕ) → a ≤ b → count p a ≤ count p b
+count-mono : (p : ℕ → Bool) (a b : ℕ) → a ≤ b → count p a ≤ count p b
 count-mono p a b h =
     let e : b ≡ a + (b - a) = omega arith in
     let s : count p b ≡ count p a + count (λ x. p (a + x)) (b - a) = ap (count p) e ∙ count-split p a (b - a) in

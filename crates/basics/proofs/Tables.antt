@@ -78,7 +78,7 @@ zeros-at (suc m) zero = refl
 zeros-at (suc m) (suc k) = zeros-at m k
 
 -- a part, by the elements to its end
-pub part-of-take : {A : Type 0} (a k : ℕ) (xs : List A) → drop a (take (a + k) xs) ≡ part a k xs
+part-of-take : {A : Type 0} (a k : ℕ) (xs : List A) → drop a (take (a + k) xs) ≡ part a k xs
 part-of-take zero k xs = ap (λ (i : ℕ). take i xs) (zero-add k)
 part-of-take (suc a) k [] = ap (drop (suc a)) (take-nil (suc a + k)) ∙ sym (take-nil k)
 part-of-take (suc a) k (x ∷ xs) = ap (λ (i : ℕ). drop (suc a) (take i (x ∷ xs))) (suc-add a k) ∙ part-of-take a k xs

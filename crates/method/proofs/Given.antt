@@ -57,7 +57,7 @@ module _ (n w : ℕ) (cs : List Circuit) (lies : Lies n cs) (pos : 1 ≤ w) (j :
   first-used = uses-of (circuit cs j) ((circuit cs j) .first) (omega arith) (proper n cs (lies-there n cs lies) j l ends)
 
   -- its first link is on the line
-  pub first-on : (1 ≤ (circuit cs j) .first) × ((circuit cs j) .first ≤ n)
+  first-on : (1 ≤ (circuit cs j) .first) × ((circuit cs j) .first ≤ n)
   first-on = on-line n cs (lies-there n cs lies) j ((circuit cs j) .first) first-used
 
   -- its first link is in a run of its layer

@@ -17,8 +17,7 @@ use Rattle.rows.specs.Filled.{Sheeted}
 use Rattle.rows.proofs.PlainLaws.{plain-from, plain-step, shown-plain, plain-opens, step-long, moved-refl, moved-then, sheet-turn}
 use Rattle.rows.proofs.RowLoop.{InLoop, loop-start, loop-turn, loop-end, loop-less}
 
--- at the head of the loop of row k: the work area shows a state of the row, taken links counted as red, and what is left of the row leads from that state to where all of it
--- leads from what C₀ shows; needs and last rows are as `Holds` asks
+-- at the head of the loop of row k: the work area shows a state of the row, and what is left of the row leads from it to where all of it leads from what C₀ shows
 pub record RowHolds (n m k : ℕ) (cs : List Circuit) (C₀ C : List ℕ) : Type 0 where
   pub reached : State
   pub long : length (reached .colours) ≡ n

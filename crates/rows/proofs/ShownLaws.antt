@@ -47,7 +47,7 @@ unfolding shownAs
 shown-red k d h e = rw (le-ltb d k h, ne-eqb d blueRow e)
 
 -- a link whose last row is not over is not open
-pub shown-shut : (k d : ℕ) → k ≤ d → shownAs k d ≢ open'
+shown-shut : (k d : ℕ) → k ≤ d → shownAs k d ≢ open'
 unfolding shownAs
 shown-shut k d h e = by-eq d blueRow (λ z. let t : blue ≡ open' = rw (le-ltb d k h, eq-eqb d blueRow z) at e in omega arith) (λ z. omega (arith, shown-red k d h z))
 
@@ -94,7 +94,7 @@ open-sought n k start r C pos l u e =
     e
 
 -- whether link x has another colour
-abbrev pub isNot : List ℕ → ℕ → ℕ → Bool
+abbrev isNot : List ℕ → ℕ → ℕ → Bool
 isNot K colour x = not (eqb (at K x) colour)
 
 -- the first link that is not open

@@ -47,7 +47,7 @@ module _ (n w m top : ℕ) (s b : List ℕ) (acc : Accepted n w m s) (fil : Fill
   top-few = omega (arith, most-few n w cs (acc .waves .0), length-circuitsIn m s)
 
   -- the layers by c(i) are the method's
-  pub layers-are : (h : ℕ) → layersBy (at C) n top h ≡ layers n w cs h
+  layers-are : (h : ℕ) → layersBy (at C) n top h ≡ layers n w cs h
   layers-are h = ap (λ y. layersBy (at C) n y h) t ∙ layers-same (at C) n w cs needs-are h
 
   -- and all of them its pairs
