@@ -1,4 +1,4 @@
--- Nothing is lost in the plain struct: the answer of `plan` can be told from it, so all that is proved of `plan` holds. Assumes nothing.
+-- Nothing is lost in the plain struct: the answer of `plan` is told from it as it was, so no refusal is taken for a plan. Assumes nothing.
 use Prim.Native.Nat.{ℕ, zero, suc, _/_}
 use mathlib.Core.Path.{_≡_, refl, ap, subst, sym, _∙_}
 use mathlib.Core.Bool.{Bool, true, _&&_}
@@ -21,6 +21,7 @@ use Rattle.planner.specs.declared.Answer.the-variants.{Refused}
 use Rattle.planner.specs.Outcome.{Outcome, judged, answerBy}
 use Rattle.planner.specs.Seen.{Seen}
 use Rattle.planner.proofs.Demands.{seen}
+use Rattle.planner.proofs.Pinned.{outcome-pins}
 use Rattle.exports.specs.declared.PlanAnswer.{PlanAnswer}
 use Rattle.exports.specs.Exported.{flat, told, Exported}
 
@@ -50,29 +51,34 @@ told-verdict (row ∷ rows) x counts e = go (row .place) refl (told-verdict rows
     go none q ih = of (verdict rows x) (verdict-row row rows x none q) ih
     go (some a) q ih = of (Failed (row .number) a) (verdict-row row rows x (some a) q) (told-refused (row .number) a (and-l (ltb 0 (row .number)) (numbered rows) e))
 
--- the answer that is told, with the lent areas as they are, is an outcome of `plan`
-pub told-outcome : (n w : ℕ) (s fibres₀ assigns₀ work₀ fibres₁ assigns₁ work₁ : List ℕ) (r : PlanAnswer)
-    → Exported n w s fibres₀ assigns₀ work₀ fibres₁ assigns₁ work₁ r → Outcome n w s fibres₀ assigns₀ work₀ fibres₁ assigns₁ work₁ (told r)
+-- the answer of an outcome is told as it was
+told-back : (n w : ℕ) (s fibres₀ assigns₀ work₀ fibres₁ assigns₁ work₁ : List ℕ) (a : Answer)
+    → Outcome n w s fibres₀ assigns₀ work₀ fibres₁ assigns₁ work₁ a → told (flat a) ≡ a
 unfolding judged planTable numbered
-told-outcome n w s fibres₀ assigns₀ work₀ fibres₁ assigns₁ work₁ r x =
+told-back n w s fibres₀ assigns₀ work₀ fibres₁ assigns₁ work₁ a o =
+    ap (λ (b : Answer). told (flat b)) (o .answered)
+    ∙ told-verdict (planTable n w s (length fibres₀) (length assigns₀) (length work₀)) (length s / 8) (countsOf n w (circuitsOf s)) refl
+    ∙ sym (o .answered)
+
+-- an outcome of `plan`, its answer flattened, is what is promised
+pub exported : (n w : ℕ) (s fibres₀ assigns₀ work₀ fibres₁ assigns₁ work₁ : List ℕ) (a : Answer) (r : PlanAnswer)
+    → r ≡ flat a → Outcome n w s fibres₀ assigns₀ work₀ fibres₁ assigns₁ work₁ a → Exported n w s fibres₀ assigns₀ work₀ fibres₁ assigns₁ work₁ r
+exported n w s fibres₀ assigns₀ work₀ fibres₁ assigns₁ work₁ a r e o =
+    let back : told r ≡ a = ap told e ∙ told-back n w s fibres₀ assigns₀ work₀ fibres₁ assigns₁ work₁ a o in
     record {
-      answered =
-          ap told (x .answered)
-          ∙ told-verdict (planTable n w s (length fibres₀) (length assigns₀) (length work₀)) (length s / 8) (countsOf n w (circuitsOf s)) refl;
-      listed = x .listed;
-      assigned = x .assigned;
-      cleared = x .cleared;
+      outcome = subst (Outcome n w s fibres₀ assigns₀ work₀ fibres₁ assigns₁ work₁) (sym back) o;
+      plain = e ∙ ap flat (sym back);
     }
 
 -- so the demands hold of it
 pub told-seen : (n w : ℕ) (s fibres₀ assigns₀ work₀ fibres₁ assigns₁ work₁ : List ℕ) (r : PlanAnswer)
     → Exported n w s fibres₀ assigns₀ work₀ fibres₁ assigns₁ work₁ r → Seen n w s fibres₀ assigns₀ work₀ fibres₁ assigns₁ work₁ (told r)
-told-seen n w s fibres₀ assigns₀ work₀ fibres₁ assigns₁ work₁ r x =
-    seen n w s fibres₀ assigns₀ work₀ fibres₁ assigns₁ work₁ (told r) (told-outcome n w s fibres₀ assigns₀ work₀ fibres₁ assigns₁ work₁ r x)
+told-seen n w s fibres₀ assigns₀ work₀ fibres₁ assigns₁ work₁ r x = seen n w s fibres₀ assigns₀ work₀ fibres₁ assigns₁ work₁ (told r) (x .outcome)
 
 -- two answers that meet the contract are equal, with every byte
 pub exported-pins : (n w : ℕ) (s fibres₀ assigns₀ work₀ : List ℕ) (fibres₁ assigns₁ work₁ fibres₂ assigns₂ work₂ : List ℕ) (one two : PlanAnswer)
     → Exported n w s fibres₀ assigns₀ work₀ fibres₁ assigns₁ work₁ one → Exported n w s fibres₀ assigns₀ work₀ fibres₂ assigns₂ work₂ two
     → (one ≡ two) × (fibres₁ ≡ fibres₂) × (assigns₁ ≡ assigns₂) × (work₁ ≡ work₂)
 exported-pins n w s fibres₀ assigns₀ work₀ fibres₁ assigns₁ work₁ fibres₂ assigns₂ work₂ one two x y =
-    (x .answered ∙ sym (y .answered), x .listed ∙ sym (y .listed), x .assigned ∙ sym (y .assigned), x .cleared ∙ sym (y .cleared))
+    let p = outcome-pins n w s fibres₀ assigns₀ work₀ fibres₁ assigns₁ work₁ fibres₂ assigns₂ work₂ (told one) (told two) (x .outcome) (y .outcome) in
+    (x .plain ∙ ap flat (p .0) ∙ sym (y .plain), p .1, p .2, p .3)

@@ -1,13 +1,10 @@
 -- What `fibre_plan` answers, and what the three lent areas hold afterwards, for every input. What a reader must believe.
--- `proofs/Told.antt` shows `told-outcome`: the answer of `plan` can be told from it. Assumes nothing.
-use Prim.Native.Nat.{ℕ, zero, suc, _+_, _*_, _/_}
+-- Assumes nothing.
+use Prim.Native.Nat.{ℕ, zero, suc}
 use mathlib.Core.Path.{_≡_}
 use mathlib.Core.List.{List}
-use lib.ListN.{length}
-use Rattle.records.specs.Records.{circuitsOf}
 use Rattle.strands.specs.declared.Counts.{Counts}
-use Rattle.strands.specs.Laid.{countsOf, fibreList, assignmentList}
-use Rattle.planner.specs.Outcome.{judged, answerBy, ifAccepted, zeroedTo}
+use Rattle.planner.specs.Outcome.{Outcome}
 use Rattle.planner.specs.declared.Answer.{Answer}
 use Rattle.planner.specs.declared.Answer.the-variants.{Planned, Refused}
 use Rattle.exports.specs.declared.PlanAnswer.{PlanAnswer}
@@ -26,9 +23,7 @@ toldBy (suc k) place counts = Refused (suc k) place
 abbrev pub told : PlanAnswer → Answer
 told r = toldBy (r .refusal) (r .place) (record { fibres = r .fibres; total = r .total; floor = r .floor })
 
--- the answer and every byte of the three lent areas
+-- the answer that is told and every byte of the three lent areas are an outcome of `plan`, and the struct tells nothing else
 pub record Exported (n w : ℕ) (s fibres₀ assigns₀ work₀ fibres₁ assigns₁ work₁ : List ℕ) (r : PlanAnswer) : Type 0 where
-  pub answered : r ≡ flat (answerBy (judged n w s fibres₀ assigns₀ work₀) (countsOf n w (circuitsOf s)))
-  pub listed : fibres₁ ≡ ifAccepted (judged n w s fibres₀ assigns₀ work₀) (fibreList n w 0 (circuitsOf s) fibres₀) fibres₀
-  pub assigned : assigns₁ ≡ ifAccepted (judged n w s fibres₀ assigns₀ work₀) (assignmentList n w 0 (circuitsOf s) assigns₀) assigns₀
-  pub cleared : work₁ ≡ ifAccepted (judged n w s fibres₀ assigns₀ work₀) (zeroedTo (4 * n + 4 * (length s / 8)) work₀) work₀
+  pub outcome : Outcome n w s fibres₀ assigns₀ work₀ fibres₁ assigns₁ work₁ (told r)
+  pub plain : r ≡ flat (told r)

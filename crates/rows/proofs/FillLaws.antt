@@ -23,7 +23,7 @@ use Rattle.records.proofs.Parts.{zeroed}
 use Rattle.records.proofs.PartCells.{cells-mid, cells-put}
 use Rattle.records.proofs.Encode.{cellsOf-zeros}
 use Rattle.rows.specs.Accepted.{Accepted}
-use Rattle.rows.specs.Area.{lastsIn, rowsIn}
+use Rattle.records.specs.Area.{lastsIn, rowsIn}
 use Rattle.rows.specs.Colours.{blueRow}
 use Rattle.rows.specs.Filled.{Filled, Sheeted}
 use Rattle.rows.specs.Loads.{Below}

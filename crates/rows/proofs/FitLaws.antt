@@ -22,7 +22,8 @@ use Rattle.queue.proofs.QueueLaws.{fit-is, chosen-is, chosen-none, chosen-waits
 use Rattle.records.specs.declared.Circuit.{Circuit}
 use Rattle.scans.specs.declared.Bounds.{Bounds}
 use Rattle.scans.specs.Scans.{within, bothWithin}
-use Rattle.rows.specs.Area.{lastsIn, rowsIn, stateIn}
+use Rattle.records.specs.Area.{lastsIn, rowsIn}
+use Rattle.rows.specs.Area.{stateIn}
 use Rattle.rows.specs.Colours.{shown, Around}
 use Rattle.rows.specs.Choice.{fitsRun}
 use Rattle.rows.specs.declared.colours.Run.{Run}

@@ -11,7 +11,8 @@ use Rattle.method.specs.Sheet.{paint}
 use Rattle.records.specs.Bytes.{cellsOf}
 use Rattle.records.proofs.CellLaws.{length-cellsOf}
 use Rattle.records.proofs.PartCells.{cells-mid, cells-put}
-use Rattle.rows.specs.Area.{lastsIn, rowsIn, Desk}
+use Rattle.records.specs.Area.{lastsIn, rowsIn}
+use Rattle.rows.specs.Area.{Desk}
 use Rattle.rows.specs.Colours.{painted}
 
 -- file, work area and list after a change that keeps their sizes

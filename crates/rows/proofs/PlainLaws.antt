@@ -17,7 +17,8 @@ use Rattle.method.proofs.Closed.{opens, opens-same}
 use Rattle.method.proofs.Colours.{at-each, at-paint, from-same, inRun-same, fits-same}
 use Rattle.method.proofs.Steps.{step-keeps}
 use Rattle.records.specs.declared.Circuit.{Circuit}
-use Rattle.rows.specs.Area.{lastsIn, rowsIn, stateIn, Holds}
+use Rattle.records.specs.Area.{lastsIn, rowsIn}
+use Rattle.rows.specs.Area.{stateIn, Holds}
 use Rattle.rows.specs.Colours.{blueRow, shownAs, shown, alike, plain, Moved}
 use Rattle.rows.specs.Filled.{Resting, Sheeted}
 use Rattle.rows.proofs.Written.{at-past}

@@ -11,7 +11,8 @@ use Rattle.method.proofs.Closed.{opens}
 use Rattle.queue.specs.declared.Queue.{Queue}
 use Rattle.queue.specs.Queued.{Queued}
 use Rattle.records.specs.declared.Circuit.{Circuit}
-use Rattle.rows.specs.Area.{lastsIn, rowsIn, stateIn, Holds}
+use Rattle.records.specs.Area.{lastsIn, rowsIn}
+use Rattle.rows.specs.Area.{stateIn, Holds}
 use Rattle.rows.specs.Colours.{shown, plain, Moved}
 use Rattle.rows.specs.Filled.{Sheeted}
 use Rattle.rows.proofs.PlainLaws.{plain-from, plain-step, shown-plain, plain-opens, step-long, moved-refl, moved-then, sheet-turn}

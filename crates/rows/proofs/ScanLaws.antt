@@ -15,7 +15,8 @@ use Rattle.records.specs.Bytes.{cellsOf}
 use Rattle.records.specs.Records.{circuitsIn}
 use Rattle.records.proofs.CellLaws.{length-cellsOf}
 use Rattle.records.proofs.Files.{length-circuitsIn}
-use Rattle.rows.specs.Area.{lastsIn, rowsIn, stateIn, Holds, Placed, Desk}
+use Rattle.records.specs.Area.{lastsIn, rowsIn}
+use Rattle.rows.specs.Area.{stateIn, Holds, Placed, Desk}
 use Rattle.rows.specs.Choice.{fitsRun}
 use Rattle.rows.specs.Colours.{blueRow, shown, plain, Moved, Around, painted}
 use Rattle.rows.specs.declared.colours.Run.{Run}

@@ -23,7 +23,8 @@ use Rattle.records.specs.Bytes.{cell, setCell, cellsOf}
 use Rattle.records.specs.Records.{recordAt, circuitOf, circuitsIn}
 use Rattle.records.specs.declared.Circuit.{Circuit}
 use Rattle.records.proofs.CellLaws.{cell-is, stored}
-use Rattle.rows.specs.Area.{lastsIn, rowsIn, stateIn, Holds, Placed}
+use Rattle.records.specs.Area.{lastsIn, rowsIn}
+use Rattle.rows.specs.Area.{stateIn, Holds, Placed}
 use Rattle.rows.specs.Colours.{blueRow, shownAs, shown, plain, Moved, Around, between, painted}
 use Rattle.rows.specs.declared.colours.Run.{Run}
 use Rattle.rows.proofs.HoldLaws.{enter-row}

@@ -1,10 +1,10 @@
--- The parts of the work area, as cells: n needs c(i), n last rows of links, m rows of circuits (0 while a circuit waits), m spare. Assumes nothing.
+-- What the work area shows of the sheet, and how it changes. Assumes nothing.
 use Prim.Native.Nat.{ℕ, _+_, _*_, _≤_}
 use mathlib.Core.Bool.{_&&_}
 use mathlib.Core.Path.{_≡_}
 use mathlib.Core.List.{List}
 use lib.ListN.{length, set, take}
-use Rattle.basics.specs.Tools.{part}
+use Rattle.records.specs.Area.{lastsIn, rowsIn}
 use Rattle.records.specs.declared.Circuit.{Circuit}
 use Rattle.records.specs.Records.{circuitsIn}
 use Rattle.method.specs.Line.{circuit, uses, Lies, Distinct}
@@ -12,14 +12,6 @@ use Rattle.method.specs.Sheet.{State, paint}
 use Rattle.queue.specs.Queued.{placeIn}
 use Rattle.rows.specs.declared.colours.Run.{Run}
 use Rattle.rows.specs.Colours.{shown, Moved, between}
-
--- the last row of each link: in which it was taken or is red for the last time, or 65,535 once it is blue
-abbrev pub lastsIn : ℕ → List ℕ → List ℕ
-lastsIn n C = part n n C
-
--- the row of each circuit
-abbrev pub rowsIn : ℕ → ℕ → List ℕ → List ℕ
-rowsIn n m C = part (2 * n) m C
 
 -- the state of the sheet that the work area shows in row k
 abbrev pub stateIn : ℕ → ℕ → ℕ → List ℕ → State

@@ -11,7 +11,7 @@ use Rattle.records.specs.declared.Circuit.{Circuit}
 use Rattle.records.specs.Bytes.{cellsOf}
 use Rattle.records.specs.Records.{circuitsIn}
 use Rattle.method.specs.Sheet.{at, blue, need, redTo, sheet, rows}
-use Rattle.rows.specs.Area.{lastsIn, rowsIn}
+use Rattle.records.specs.Area.{lastsIn, rowsIn}
 use Rattle.rows.specs.Colours.{blueRow}
 
 -- c(i) of each link in the first n cells, and the row of each circuit from cell 2n on

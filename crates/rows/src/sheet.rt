@@ -11,7 +11,8 @@ ghost use Rattle.queue.specs.Queued.{Queued, placeIn};
 ghost use Rattle.records.specs.Bytes.{cellsOf};
 ghost use Rattle.records.specs.Records.{circuitsIn};
 ghost use Rattle.rows.specs.Accepted.{Accepted};
-ghost use Rattle.rows.specs.Area.{lastsIn, rowsIn, stateIn, Holds, Placed, Desk};
+ghost use Rattle.records.specs.Area.{lastsIn, rowsIn};
+ghost use Rattle.rows.specs.Area.{stateIn, Holds, Placed, Desk};
 ghost use Rattle.rows.specs.Colours.{shown, plain, painted};
 ghost use Rattle.rows.specs.Filled.{Sheeted};
 

@@ -7,7 +7,8 @@ use Rattle.records.specs.Bytes.{cellsOf}
 use Rattle.records.specs.Records.{circuitsIn}
 use Rattle.records.proofs.Files.{length-circuitsIn}
 use Rattle.queue.specs.Queued.{Queued}
-use Rattle.rows.specs.Area.{rowsIn, Desk}
+use Rattle.records.specs.Area.{rowsIn}
+use Rattle.rows.specs.Area.{Desk}
 use Rattle.rows.specs.Filled.{Sheeted}
 use Rattle.rows.proofs.HoldLaws.{desk-on}
 use Rattle.rows.proofs.RowLaws.{first-queued, first-there, sheet-more}

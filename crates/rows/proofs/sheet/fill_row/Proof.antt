@@ -10,7 +10,8 @@ use Rattle.method.specs.Sheet.{runFrom}
 use Rattle.method.proofs.Closed.{opens}
 use Rattle.method.proofs.Colours.{from-pos}
 use Rattle.queue.specs.Queued.{Queued}
-use Rattle.rows.specs.Area.{lastsIn, rowsIn, stateIn, Desk}
+use Rattle.records.specs.Area.{lastsIn, rowsIn}
+use Rattle.rows.specs.Area.{stateIn, Desk}
 use Rattle.rows.specs.Colours.{shown}
 use Rattle.rows.proofs.ScanLaws.{seek-lent, next-lent}
 use Rattle.rows.proofs.RowLaws.{RowHolds, row-start, row-turn, row-end, row-less}

@@ -1,0 +1,12 @@
+-- The parts of the work area, as cells: n needs c(i), n last rows of links, m rows of circuits (0 while a circuit waits), m spare. Assumes nothing.
+use Prim.Native.Nat.{ℕ, _*_}
+use mathlib.Core.List.{List}
+use Rattle.basics.specs.Tools.{part}
+
+-- the last row of each link: in which it was taken or is red for the last time, or 65,535 once it is blue
+abbrev pub lastsIn : ℕ → List ℕ → List ℕ
+lastsIn n C = part n n C
+
+-- the row of each circuit
+abbrev pub rowsIn : ℕ → ℕ → List ℕ → List ℕ
+rowsIn n m C = part (2 * n) m C
