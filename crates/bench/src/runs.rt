@@ -7,6 +7,7 @@ use crate::inputs::Faults;
 use crate::report::Told;
 use planner::Answer;
 use records::Circuit;
+use records::Line;
 
 // How many bytes of each area are lent.
 pub struct Room {
@@ -113,8 +114,10 @@ fn lend(
     let a = least(r.assigns, assigns.len());
     let k = least(r.work, work.len());
     let answer = planner::plan(
-        n,
-        w,
+        Line {
+            links: n,
+            wavelengths: w,
+        },
         circuits,
         &mut fibres[0..f],
         &mut assigns[0..a],

@@ -1,90 +1,51 @@
-// Turns a text of circuits into the records of a line, in the folder where it runs.
-use entry_text::Entry;
-use files::Moved;
+// Turns a text of circuits on standard input into the records of a line, in the folder where it runs. It reads, calls and writes; what the files hold and what is
+// said of the text is `MadeRead` of crate `prints`.
+use entry_text::Made;
+use files::pair::Replacement;
 ghost use mathlib.Core.Path.{_≡_};
+ghost use Prim.Native.Nat.{_≤_};
 ghost use lib.ListN.{length};
 
-// Prints what was expected.
-fn print_expected(expected: u32) {
-    match expected {
-        1 => files::write_output(b"expected: n w\n"),
-        2 => files::write_output(b"expected: number first last\n"),
-        3 => files::write_output(b"expected: no more than 2049 circuits\n"),
-        _ => files::write_output(b"expected: a text of at most 1048576 bytes\n"),
+// Writes both files, and prints what is said of the text.
+fn keep(line: &[u8], circuits: &[u8], message: &[u8]) {
+    let pair = files::pair::replace_pair(line, circuits);
+    match pair {
+        Replacement::Done => files::write_output(message),
+        Replacement::NotWritten => files::write_output(b"line.rec and circuits.rec cannot be written\n"),
+        Replacement::NotNamed => files::write_output(b"line.rec and circuits.rec cannot be replaced\n"),
     }
     ;
 }
 
-// Prints which line is wrong, unless it is the text as a whole, and what was expected.
-fn print_wrong(line: usize, expected: u32) {
-    if 0 < line {
-        files::write_output(b"line ");
-        files::write_number(line as u64);
-        files::write_output(b": ");
-    }
-    print_expected(expected);
-}
-
-// Writes line.rec.
-fn write_line(n: u16, w: u16) -> Moved {
-    let mut line = [0u8; 4];
-    records::cells::put(&mut line, 0, n);
-    records::cells::put(&mut line, 1, w);
-    files::write_file(b"line.rec", b"line.rec.new", &line)
-}
-
-// Writes both files, and prints how many circuits there are.
-fn keep(n: u16, w: u16, circuits: usize, file: &[u8]) {
-    let Moved::Bytes(_) = files::write_file(b"circuits.rec", b"circuits.rec.new", file) else {
-        files::write_output(b"circuits.rec cannot be written\n");
-        return;
-    };
-    let Moved::Bytes(_) = write_line(n, w) else {
-        files::write_output(b"line.rec cannot be written\n");
-        return;
-    };
-    files::write_output(b"circuits: ");
-    files::write_number(circuits as u64);
-    files::write_output(b"\n");
-}
-
-// Reads the text into circuit records, and writes them or says what is wrong.
-fn enter_in(text: &[u8], out: &mut [u8]) {
-    let e = entry_text::enter(text, out);
-    match e {
-        Entry::Entered { n, w, circuits } => {
-            let k = 8 * circuits;
-            keep(n, w, circuits, &out[0..k]);
-        }
-        Entry::Wrong { line, expected } => print_wrong(line, expected),
-    }
-}
-
-// Enters a text, with room for one circuit more than the planner takes.
-fn enter_text(text: &[u8]) {
-    let mut out = [0u8; 16392];
-    enter_in(text, &mut out);
-}
-
-// Reads the text into a buffer, and enters it.
-fn read_text(buf: &mut [u8]) {
-    let got = files::read_input(buf);
-    let Moved::Bytes(k) = got else {
-        files::write_output(b"standard input cannot be read\n");
-        return;
-    };
-    enter_text(&buf[0..k]);
-}
-
-// A buffer for a byte more than the longest text, to tell that a text is too long.
-fn text_buffer() -> [u8; 1048577]
-    ensures { λ r. ⌜ 1048577 ≡ length r ⌝ }
+// Reads the text, makes its files and writes them, or prints what is wrong.
+fn read_and_enter(buffer: &mut [u8], line: &mut [u8], circuits: &mut [u8], message: &mut [u8])
+    requires { ⌜ (length (now buffer) ≡ 1048577) × ((length (now line) ≡ 4) × (length (now circuits) ≡ 16384) × (76 ≤ length (now message))) ⌝ }
 {
-    [0; 1048577]
+    let got = files::read_input(buffer);
+    let made = prints::entering::make_files(got, buffer, line, circuits, message);
+    match made {
+        Made::Both {
+            circuits: c,
+            message: k,
+        } => keep(line, &circuits[0..c], &message[0..k]),
+        Made::Neither(k) => {
+            files::write_output(&message[0..k]);
+        }
+    }
 }
 
-// Reads standard input and enters it.
+// Lends the other buffers, with room for the 2,048 circuits that the planner takes.
+fn lend(buffer: &mut [u8])
+    requires { ⌜ length (now buffer) ≡ 1048577 ⌝ }
+{
+    let mut line = [0u8; 4];
+    let mut circuits = [0u8; 16384];
+    let mut message = [0u8; 76];
+    read_and_enter(buffer, &mut line, &mut circuits, &mut message);
+}
+
+// Lends the buffer for the text.
 fn main() {
-    let mut buf = text_buffer();
-    read_text(&mut buf);
+    let mut buffer = entry_text::buffer();
+    lend(&mut buffer);
 }

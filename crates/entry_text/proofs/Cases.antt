@@ -8,8 +8,11 @@ use borrow.Author.Tests.{leb-true, ltb-true}
 use Rattle.basics.specs.Tools.{seek}
 use Rattle.records.specs.declared.Circuit.{Circuit}
 use Rattle.entry_text.specs.declared.Entry.the-variants.{Entered, Wrong}
-use Rattle.entry_text.specs.Entries.{Reading, isSpace, isDigit, lineEnd, wordFrom, wordTo, spelt, numberIn, wordNumber, wordPast, idleLine, headerIn, circuitIn, circuitsFrom, headerFrom, headed, tooLong, read, after}
-use Rattle.entry_text.specs.Entered.{answerBy, entryOf}
+use Rattle.entry_text.specs.Entries.{Reading, isSpace, isDigit, lineEnd, wordFrom, wordTo, spelt, numeralIn, wordNumber, wordPast, idleLine, headerIn, circuitIn, circuitsFrom, headerFrom, headed, tooLong, read, after}
+use Rattle.entry_text.specs.Entered.{entryBy, entryOf}
+use Rattle.entry_text.specs.declared.faults.Fault.the-variants.{NumberMissing, Sign, Mark, NoNumber, TooLarge, WordTooMany}
+use Rattle.entry_text.specs.Lines.{nextLine, afterLines, lineStart, countingLine, lineOfRecord, headerLine}
+use Rattle.entry_text.specs.Faults.{isSign, isMark, digitsTo, wordFault, faultFrom, headerFault, circuitFault, faultAt}
 use Rattle.entry_text.proofs.Headings.{read-as, entry-as}
 use Rattle.entry_text.proofs.Readings.{circuits-over, circuits-idle, circuits-full, circuits-more}
 
@@ -23,7 +26,7 @@ four = 53 ∷ 32 ∷ 50 ∷ 10 ∷ 49 ∷ 48 ∷ 32 ∷ 49 ∷ 32 ∷ 51 ∷ 10 
 
 -- its header
 four-header : headerFrom (suc (length four)) four 0 1 ≡ headed (record { n = 5; w = 2 }) 4 2
-unfolding four headerFrom headerIn lineEnd seek idleLine wordFrom isSpace wordNumber wordPast numberIn wordTo spelt isDigit
+unfolding four headerFrom headerIn lineEnd seek idleLine wordFrom isSpace wordNumber wordPast numeralIn wordTo spelt isDigit
 four-header = refl
 
 -- and is not too long
@@ -33,7 +36,7 @@ four-short = leb-true (length four) 1048576 refl
 
 -- its lines, with room for four
 four-lines : circuitsFrom 33 four 4 2 4 ≡ record { circuits = circuit 10 1 3 ∷ circuit 20 2 5 ∷ circuit 30 1 2 ∷ circuit 40 4 5 ∷ []; stopped = none }
-unfolding four lineEnd seek idleLine wordFrom isSpace circuitIn wordNumber wordPast numberIn wordTo spelt isDigit
+unfolding four lineEnd seek idleLine wordFrom isSpace circuitIn wordNumber wordPast numeralIn wordTo spelt isDigit
 four-lines =
     circuits-more 33 32 four 4 2 4 3 10 (circuit 10 1 3) refl (ltb-true 4 32 refl) refl refl refl refl
     ∙ ap (after (circuit 10 1 3)) (circuits-more 32 31 four 11 3 3 2 17 (circuit 20 2 5) refl (ltb-true 11 32 refl) refl refl refl refl
@@ -50,11 +53,11 @@ four-circuits = ap (λ (r : Reading). r .circuits) (read-as four 4 5 2 4 2 four-
 pub four-answer : entryOf four 4 ≡ Entered 5 2 4
 unfolding four
 four-answer = entry-as four 4 5 2 4 2 four-short four-header
-    ∙ ap (λ (r : Reading). answerBy (headed (record { n = 5; w = 2 }) 4 2) (length (r .circuits)) (r .stopped)) four-lines
+    ∙ ap (λ (r : Reading). entryBy (headed (record { n = 5; w = 2 }) 4 2) (length (r .circuits)) (r .stopped)) four-lines
 
 -- its lines, with room for three
 three-lines : circuitsFrom 33 four 4 2 3 ≡ record { circuits = circuit 10 1 3 ∷ circuit 20 2 5 ∷ circuit 30 1 2 ∷ []; stopped = some (record { line = 5; expected = 3 }) }
-unfolding four lineEnd seek idleLine wordFrom isSpace circuitIn wordNumber wordPast numberIn wordTo spelt isDigit
+unfolding four lineEnd seek idleLine wordFrom isSpace circuitIn wordNumber wordPast numeralIn wordTo spelt isDigit
 three-lines =
     circuits-more 33 32 four 4 2 3 2 10 (circuit 10 1 3) refl (ltb-true 4 32 refl) refl refl refl refl
     ∙ ap (after (circuit 10 1 3)) (circuits-more 32 31 four 11 3 2 1 17 (circuit 20 2 5) refl (ltb-true 11 32 refl) refl refl refl refl
@@ -70,7 +73,7 @@ three-circuits = ap (λ (r : Reading). r .circuits) (read-as four 3 5 2 4 2 four
 pub three-answer : entryOf four 3 ≡ Wrong 5 3
 unfolding four
 three-answer = entry-as four 3 5 2 4 2 four-short four-header
-    ∙ ap (λ (r : Reading). answerBy (headed (record { n = 5; w = 2 }) 4 2) (length (r .circuits)) (r .stopped)) three-lines
+    ∙ ap (λ (r : Reading). entryBy (headed (record { n = 5; w = 2 }) 4 2) (length (r .circuits)) (r .stopped)) three-lines
 
 -- comment lines, blank lines, tabs, carriage returns and no newline at the end
 unfoldable pub spaced : List ℕ
@@ -78,7 +81,7 @@ spaced = 35 ∷ 32 ∷ 116 ∷ 119 ∷ 111 ∷ 10 ∷ 10 ∷ 9 ∷ 53 ∷ 32 ∷
 
 -- its header
 spaced-header : headerFrom (suc (length spaced)) spaced 0 1 ≡ headed (record { n = 5; w = 2 }) 13 4
-unfolding spaced headerFrom headerIn lineEnd seek idleLine wordFrom isSpace wordNumber wordPast numberIn wordTo spelt isDigit
+unfolding spaced headerFrom headerIn lineEnd seek idleLine wordFrom isSpace wordNumber wordPast numeralIn wordTo spelt isDigit
 spaced-header = refl
 
 -- and is not too long
@@ -88,7 +91,7 @@ spaced-short = leb-true (length spaced) 1048576 refl
 
 -- its lines
 spaced-lines : circuitsFrom 51 spaced 13 4 9 ≡ record { circuits = circuit 7 1 2 ∷ circuit 4294967295 65535 0 ∷ []; stopped = none }
-unfolding spaced lineEnd seek idleLine wordFrom isSpace circuitIn wordNumber wordPast numberIn wordTo spelt isDigit
+unfolding spaced lineEnd seek idleLine wordFrom isSpace circuitIn wordNumber wordPast numeralIn wordTo spelt isDigit
 spaced-lines =
     circuits-idle 51 50 spaced 13 4 9 15 refl (ltb-true 13 50 refl) refl refl
     ∙ circuits-more 50 49 spaced 16 5 9 8 26 (circuit 7 1 2) refl (ltb-true 16 50 refl) refl refl refl refl
@@ -105,7 +108,7 @@ spaced-circuits = ap (λ (r : Reading). r .circuits) (read-as spaced 9 5 2 13 4 
 pub spaced-answer : entryOf spaced 9 ≡ Entered 5 2 2
 unfolding spaced
 spaced-answer = entry-as spaced 9 5 2 13 4 spaced-short spaced-header
-    ∙ ap (λ (r : Reading). answerBy (headed (record { n = 5; w = 2 }) 13 4) (length (r .circuits)) (r .stopped)) spaced-lines
+    ∙ ap (λ (r : Reading). entryBy (headed (record { n = 5; w = 2 }) 13 4) (length (r .circuits)) (r .stopped)) spaced-lines
 
 -- no text
 unfoldable pub nothing : List ℕ
@@ -113,7 +116,7 @@ nothing = []
 
 -- `n w` was expected in line 1
 pub nothing-wrong : entryOf nothing 9 ≡ Wrong 1 1
-unfolding nothing entryOf read tooLong headerFrom headerIn circuitsFrom circuitIn idleLine wordNumber wordPast numberIn wordFrom wordTo lineEnd spelt isSpace isDigit seek
+unfolding nothing entryOf read tooLong headerFrom headerIn circuitsFrom circuitIn idleLine wordNumber wordPast numeralIn wordFrom wordTo lineEnd spelt isSpace isDigit seek
 nothing-wrong = refl
 
 -- one number: `5`
@@ -122,7 +125,7 @@ one = 53 ∷ 10 ∷ []
 
 -- `n w` was expected in line 1
 pub one-wrong : entryOf one 9 ≡ Wrong 1 1
-unfolding one entryOf read tooLong headerFrom headerIn circuitsFrom circuitIn idleLine wordNumber wordPast numberIn wordFrom wordTo lineEnd spelt isSpace isDigit seek
+unfolding one entryOf read tooLong headerFrom headerIn circuitsFrom circuitIn idleLine wordNumber wordPast numeralIn wordFrom wordTo lineEnd spelt isSpace isDigit seek
 one-wrong = refl
 
 -- a circuit with two numbers: `5 2`, `1 2`
@@ -131,7 +134,7 @@ short = 53 ∷ 32 ∷ 50 ∷ 10 ∷ 49 ∷ 32 ∷ 50 ∷ 10 ∷ []
 
 -- a circuit was expected in line 2
 pub short-wrong : entryOf short 9 ≡ Wrong 2 2
-unfolding short entryOf read tooLong headerFrom headerIn circuitsFrom circuitIn idleLine wordNumber wordPast numberIn wordFrom wordTo lineEnd spelt isSpace isDigit seek
+unfolding short entryOf read tooLong headerFrom headerIn circuitsFrom circuitIn idleLine wordNumber wordPast numeralIn wordFrom wordTo lineEnd spelt isSpace isDigit seek
 short-wrong = refl
 
 -- a circuit with four numbers: `5 2`, `1 2 3 4`
@@ -140,7 +143,7 @@ long = 53 ∷ 32 ∷ 50 ∷ 10 ∷ 49 ∷ 32 ∷ 50 ∷ 32 ∷ 51 ∷ 32 ∷ 52 
 
 -- a circuit was expected in line 2
 pub long-wrong : entryOf long 9 ≡ Wrong 2 2
-unfolding long entryOf read tooLong headerFrom headerIn circuitsFrom circuitIn idleLine wordNumber wordPast numberIn wordFrom wordTo lineEnd spelt isSpace isDigit seek
+unfolding long entryOf read tooLong headerFrom headerIn circuitsFrom circuitIn idleLine wordNumber wordPast numeralIn wordFrom wordTo lineEnd spelt isSpace isDigit seek
 long-wrong = refl
 
 -- a first link that does not fit in two bytes: `5 2`, `1 65536 2`
@@ -149,7 +152,7 @@ large = 53 ∷ 32 ∷ 50 ∷ 10 ∷ 49 ∷ 32 ∷ 54 ∷ 53 ∷ 53 ∷ 51 ∷ 54
 
 -- a circuit was expected in line 2
 pub large-wrong : entryOf large 9 ≡ Wrong 2 2
-unfolding large entryOf read tooLong headerFrom headerIn circuitsFrom circuitIn idleLine wordNumber wordPast numberIn wordFrom wordTo lineEnd spelt isSpace isDigit seek
+unfolding large entryOf read tooLong headerFrom headerIn circuitsFrom circuitIn idleLine wordNumber wordPast numeralIn wordFrom wordTo lineEnd spelt isSpace isDigit seek
 large-wrong = refl
 
 -- a number with a letter: `5 2`, `1 2 3x`
@@ -158,5 +161,62 @@ letter = 53 ∷ 32 ∷ 50 ∷ 10 ∷ 49 ∷ 32 ∷ 50 ∷ 32 ∷ 51 ∷ 120 ∷ 
 
 -- a circuit was expected in line 2
 pub letter-wrong : entryOf letter 9 ≡ Wrong 2 2
-unfolding letter entryOf read tooLong headerFrom headerIn circuitsFrom circuitIn idleLine wordNumber wordPast numberIn wordFrom wordTo lineEnd spelt isSpace isDigit seek
+unfolding letter entryOf read tooLong headerFrom headerIn circuitsFrom circuitIn idleLine wordNumber wordPast numeralIn wordFrom wordTo lineEnd spelt isSpace isDigit seek
 letter-wrong = refl
+
+-- a number is missing
+pub short-fault : faultAt short 2 2 ≡ NumberMissing
+unfolding short entryOf read tooLong headerFrom headerIn circuitsFrom circuitIn idleLine wordNumber wordPast numeralIn wordFrom wordTo lineEnd spelt isSpace isDigit seek faultAt circuitFault headerFault faultFrom wordFault isSign isMark digitsTo lineStart afterLines nextLine
+short-fault = refl
+
+-- a word is too many
+pub long-fault : faultAt long 2 2 ≡ WordTooMany
+unfolding long entryOf read tooLong headerFrom headerIn circuitsFrom circuitIn idleLine wordNumber wordPast numeralIn wordFrom wordTo lineEnd spelt isSpace isDigit seek faultAt circuitFault headerFault faultFrom wordFault isSign isMark digitsTo lineStart afterLines nextLine
+long-fault = refl
+
+-- a number is too large
+pub large-fault : faultAt large 2 2 ≡ TooLarge
+unfolding large entryOf read tooLong headerFrom headerIn circuitsFrom circuitIn idleLine wordNumber wordPast numeralIn wordFrom wordTo lineEnd spelt isSpace isDigit seek faultAt circuitFault headerFault faultFrom wordFault isSign isMark digitsTo lineStart afterLines nextLine
+large-fault = refl
+
+-- a word is no number
+pub letter-fault : faultAt letter 2 2 ≡ NoNumber
+unfolding letter entryOf read tooLong headerFrom headerIn circuitsFrom circuitIn idleLine wordNumber wordPast numeralIn wordFrom wordTo lineEnd spelt isSpace isDigit seek faultAt circuitFault headerFault faultFrom wordFault isSign isMark digitsTo lineStart afterLines nextLine
+letter-fault = refl
+
+-- a sign: `5 2`, `1 -2 3`
+unfoldable pub sign : List ℕ
+sign = 53 ∷ 32 ∷ 50 ∷ 10 ∷ 49 ∷ 32 ∷ 45 ∷ 50 ∷ 32 ∷ 51 ∷ 10 ∷ []
+
+-- the second line has it
+pub sign-fault : faultAt sign 2 2 ≡ Sign
+unfolding sign entryOf read tooLong headerFrom headerIn circuitsFrom circuitIn idleLine wordNumber wordPast numeralIn wordFrom wordTo lineEnd spelt isSpace isDigit seek faultAt circuitFault headerFault faultFrom wordFault isSign isMark digitsTo lineStart afterLines nextLine
+sign-fault = refl
+
+-- a byte order mark before `5 2`
+unfoldable pub mark : List ℕ
+mark = 239 ∷ 187 ∷ 191 ∷ 53 ∷ 32 ∷ 50 ∷ 10 ∷ []
+
+-- the first line has it
+pub mark-fault : faultAt mark 1 1 ≡ Mark
+unfolding mark entryOf read tooLong headerFrom headerIn circuitsFrom circuitIn idleLine wordNumber wordPast numeralIn wordFrom wordTo lineEnd spelt isSpace isDigit seek faultAt circuitFault headerFault faultFrom wordFault isSign isMark digitsTo lineStart afterLines nextLine
+mark-fault = refl
+
+-- a comment line, `5 2`, a blank line, `7 1 2`
+unfoldable pub gaps : List ℕ
+gaps = 35 ∷ 10 ∷ 53 ∷ 32 ∷ 50 ∷ 10 ∷ 10 ∷ 55 ∷ 32 ∷ 49 ∷ 32 ∷ 50 ∷ 10 ∷ []
+
+-- its header stands in line 2
+pub gaps-header : headerLine gaps ≡ 2
+unfolding gaps lineOfRecord countingLine idleLine lineEnd wordFrom isSpace seek
+gaps-header = refl
+
+-- its circuit in line 4
+pub gaps-first : lineOfRecord gaps 1 ≡ 4
+unfolding gaps lineOfRecord countingLine idleLine lineEnd wordFrom isSpace seek
+gaps-first = refl
+
+-- and there is no second
+pub gaps-second : lineOfRecord gaps 2 ≡ 0
+unfolding gaps lineOfRecord countingLine idleLine lineEnd wordFrom isSpace seek
+gaps-second = refl

@@ -8,7 +8,7 @@ use native.Mathlib.Omega.{arith}
 use lib.Dec.{leb, ltb}
 use borrow.Author.Tests.{le-leb, le-ltb, lt-leb, lt-ltb, ltb-true}
 use Rattle.basics.proofs.Bools.{on, and-false}
-use Rattle.entry_text.specs.Entries.{byte, isDigit, spelt, below, numberIn, wordNumber, wordFrom, wordTo}
+use Rattle.entry_text.specs.Entries.{byte, isDigit, spelt, below, numeralIn, wordNumber, wordFrom, wordTo}
 
 -- a number that is not below the limit is not below it with more digits
 pub stays : (s : List ℕ) (i k v limit : ℕ) → limit ≤ v → below limit (spelt s i k v) ≡ none
@@ -66,7 +66,7 @@ below-limit limit v (some x) q =
 
 -- so is the number of a word
 pub word-below : (s : List ℕ) (i e limit v : ℕ) → wordNumber s i e limit ≡ some v → v < limit
-unfolding wordNumber numberIn
+unfolding wordNumber numeralIn
 word-below s i e limit v q =
     on (ltb (wordFrom s i e) (wordTo s (wordFrom s i e) e))
     (λ t. below-limit limit v (spelt s (wordFrom s i e) (wordTo s (wordFrom s i e) e - wordFrom s i e) 0) (rw t at q))

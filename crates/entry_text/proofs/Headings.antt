@@ -18,8 +18,8 @@ use Rattle.entry_text.specs.declared.Ending.{Ending}
 use Rattle.entry_text.specs.declared.Ending.the-variants.{Whole, Stopped}
 use Rattle.entry_text.specs.Entries.{Found, Stop, Reading, headed, headless, foundBy, lineEnd, idleLine, headerIn, headerFrom, circuitsFrom, read, tooLong}
 use Rattle.entry_text.specs.Entries as text
-use Rattle.entry_text.specs.Entered.{answerBy, entryOf}
-use Rattle.entry_text.specs.Told.{opening, ending, endingBy}
+use Rattle.entry_text.specs.Entered.{entryBy, entryOf, Enters}
+use Rattle.entry_text.specs.inner.Told.{opening, ending, endingBy}
 use Rattle.entry_text.proofs.Places.{line-ge, line-le}
 use Rattle.entry_text.proofs.Readings.{header-here}
 
@@ -75,17 +75,13 @@ found-some (headed h j k) r n w i l p q =
     let e : k ≡ l = cc in
     rw (← a, ← b, ← d, ← e)
 
--- an answer and an output that are right for a text
-abbrev pub Right : List ℕ → ℕ → List ℕ → Entry → List ℕ → Type 0
-Right s room out₀ r out = (r ≡ entryOf s room) × (out ≡ fileOf ((read s room) .circuits) ++ drop (8 * length ((read s room) .circuits)) out₀)
-
 -- for a text that is too long
-pub right-long : (s : List ℕ) (room : ℕ) (out : List ℕ) → 1048576 < length s → Right s room out (Wrong 0 4) out
+pub right-long : (s : List ℕ) (room : ℕ) (out : List ℕ) → 1048576 < length s → Enters s room out (Wrong 0 4) out
 unfolding entryOf read tooLong fileOf
 right-long s room out h = let t = lt-ltb 1048576 (length s) h in (rw t, rw t)
 
 -- for a text with no header
-pub right-headless : (s : List ℕ) (room : ℕ) (out : List ℕ) (r : Opening) (l : ℕ) → length s ≤ 1048576 → r ≡ opening (headerFrom (suc (length s)) s 0 1) → r ≡ Missing l → Right s room out (Wrong l 1) out
+pub right-headless : (s : List ℕ) (room : ℕ) (out : List ℕ) (r : Opening) (l : ℕ) → length s ≤ 1048576 → r ≡ opening (headerFrom (suc (length s)) s 0 1) → r ≡ Missing l → Enters s room out (Wrong l 1) out
 unfolding entryOf read tooLong fileOf
 right-headless s room out r l h p q =
     let t = le-ltb 1048576 (length s) h in
@@ -99,7 +95,7 @@ read-as s room n w i l h f = rw (le-ltb 1048576 (length s) h, f)
 
 -- what is answered for it
 pub entry-as : (s : List ℕ) (room n w i l : ℕ) → length s ≤ 1048576 → headerFrom (suc (length s)) s 0 1 ≡ headed (record { n = n; w = w }) i l
-    → entryOf s room ≡ answerBy (headed (record { n = n; w = w }) i l) (length ((circuitsFrom (suc (length s)) s i l room) .circuits)) ((circuitsFrom (suc (length s)) s i l room) .stopped)
+    → entryOf s room ≡ entryBy (headed (record { n = n; w = w }) i l) (length ((circuitsFrom (suc (length s)) s i l room) .circuits)) ((circuitsFrom (suc (length s)) s i l room) .stopped)
 unfolding entryOf tooLong
 entry-as s room n w i l h f = rw (le-ltb 1048576 (length s) h, f, read-as s room n w i l h f)
 
@@ -109,7 +105,7 @@ answerFrom n w (Whole m) = Entered n w m
 answerFrom n w (Stopped line expected) = Wrong line expected
 
 -- it is the answer by what was found
-pub answer-from : (n w i l many : ℕ) (stop : Option Stop) → answerFrom n w (endingBy many stop) ≡ answerBy (headed (record { n = n; w = w }) i l) many stop
+pub answer-from : (n w i l many : ℕ) (stop : Option Stop) → answerFrom n w (endingBy many stop) ≡ entryBy (headed (record { n = n; w = w }) i l) many stop
 answer-from n w i l many none = refl
 answer-from n w i l many (some stop) = refl
 
@@ -117,7 +113,7 @@ answer-from n w i l many (some stop) = refl
 pub right-read : (s : List ℕ) (room : ℕ) (out₀ out : List ℕ) (r : Opening) (n w i l : ℕ) (e : Ending) (a : Entry) → length s ≤ 1048576 → r ≡ opening (headerFrom (suc (length s)) s 0 1) → r ≡ Header n w i l
     → e ≡ ending (circuitsFrom (suc (length s)) s i l room)
     → out ≡ fileOf ((circuitsFrom (suc (length s)) s i l room) .circuits) ++ drop (8 * length ((circuitsFrom (suc (length s)) s i l room) .circuits)) out₀
-    → a ≡ answerFrom n w e → Right s room out₀ a out
+    → a ≡ answerFrom n w e → Enters s room out₀ a out
 right-read s room out₀ out r n w i l e a h p q x y z =
     let f = found-some (headerFrom (suc (length s)) s 0 1) r n w i l p q in
     let g = circuitsFrom (suc (length s)) s i l room in (

@@ -3,4 +3,9 @@ pub mod Digits
 pub mod Sayings
 pub mod Readings
 pub mod Headings
+pub mod FaultLaws
+pub mod LineLaws
+pub mod MessageLaws
+pub mod PairLaws
+pub mod LineSays
 pub mod Cases

@@ -14,7 +14,7 @@ use Rattle.records.specs.Records.{fileOf, circuitBytes, putRecord}
 use Rattle.records.proofs.Files.{length-fileOf}
 use Rattle.records.proofs.Series.{putRecord-more}
 use Rattle.entry_text.specs.Entries.{Reading, Stop, lineEnd, idleLine, circuitIn, circuitsFrom, headerIn, headerFrom, headless, foundBy, after}
-use Rattle.entry_text.specs.Told.{endingBy, ending}
+use Rattle.entry_text.specs.inner.Told.{endingBy, ending, Reads}
 
 -- no line is left
 pub header-over : (f : ℕ) (s : List ℕ) (i l : ℕ) → length s ≤ i → headerFrom f s i l ≡ headless l
@@ -148,15 +148,10 @@ going-written m done stop r out out₀ y q w =
     w ∙ ap (λ (z : ℕ). fileOf done ++ drop (8 * z) out₀) (sym y)
     ∙ ap (λ (z : Reading). fileOf (z .circuits) ++ drop (8 * length (z .circuits)) out₀) (sym q)
 
--- after so many circuits reading ends: the answer and the output are those of all lines from i₀ on
-abbrev pub Ended : List ℕ → ℕ → ℕ → List ℕ → ℕ → Option Stop → List ℕ → Type 0
-Ended s i₀ l₀ out₀ m stop out = (endingBy m stop ≡ ending (circuitsFrom (suc (length s)) s i₀ l₀ (length out₀ / 8)))
-    × (out ≡ fileOf ((circuitsFrom (suc (length s)) s i₀ l₀ (length out₀ / 8)) .circuits) ++ drop (8 * length ((circuitsFrom (suc (length s)) s i₀ l₀ (length out₀ / 8)) .circuits)) out₀)
-
 -- where reading ends: the answer, and what stands in the output
 pub going-stop : (s : List ℕ) (i₀ l₀ : ℕ) (out₀ : List ℕ) (i l m : ℕ) (out : List ℕ) (stop : Option Stop) (g : Going s i₀ l₀ out₀ i l m out)
     → circuitsFrom (g .fuel) s i l (length out₀ / 8 - m) ≡ record { circuits = []; stopped = stop }
-    → Ended s i₀ l₀ out₀ m stop out
+    → Reads s i₀ l₀ out₀ (endingBy m stop) out
 going-stop s i₀ l₀ out₀ i l m out stop g q =
     let e = going-end s i₀ l₀ out₀ i l m out stop g q in (
       going-answer m (g .done) stop (circuitsFrom (suc (length s)) s i₀ l₀ (length out₀ / 8)) (g .many) e,
@@ -165,12 +160,12 @@ going-stop s i₀ l₀ out₀ i l m out stop g q =
 
 -- at the end of the text
 pub going-over : (s : List ℕ) (i₀ l₀ : ℕ) (out₀ : List ℕ) (i l m : ℕ) (out : List ℕ) → Going s i₀ l₀ out₀ i l m out → length s ≤ i
-    → Ended s i₀ l₀ out₀ m none out
+    → Reads s i₀ l₀ out₀ (endingBy m none) out
 going-over s i₀ l₀ out₀ i l m out g h = going-stop s i₀ l₀ out₀ i l m out none g (circuits-over (g .fuel) s i l (length out₀ / 8 - m) h)
 
 -- at a line that says no circuit
 pub going-wrong : (s : List ℕ) (i₀ l₀ : ℕ) (out₀ : List ℕ) (i l m e : ℕ) (out : List ℕ) → Going s i₀ l₀ out₀ i l m out → i < length s → e ≡ lineEnd s i → idleLine s i e ≡ false → circuitIn s i e ≡ none
-    → Ended s i₀ l₀ out₀ m (some (record { line = l; expected = 2 })) out
+    → Reads s i₀ l₀ out₀ (endingBy m (some (record { line = l; expected = 2 }))) out
 going-wrong s i₀ l₀ out₀ i l m e out g h he t n =
     let k = g .enough in
     going-stop s i₀ l₀ out₀ i l m out (some (record { line = l; expected = 2 })) g
@@ -179,7 +174,7 @@ going-wrong s i₀ l₀ out₀ i l m e out g h he t n =
 -- at a circuit for which there is no room
 pub going-full : (s : List ℕ) (i₀ l₀ : ℕ) (out₀ : List ℕ) (i l m e : ℕ) (out : List ℕ) (c : Circuit) → Going s i₀ l₀ out₀ i l m out → i < length s → e ≡ lineEnd s i → idleLine s i e ≡ false → circuitIn s i e ≡ some c
     → length out₀ / 8 ≤ m
-    → Ended s i₀ l₀ out₀ m (some (record { line = l; expected = 3 })) out
+    → Reads s i₀ l₀ out₀ (endingBy m (some (record { line = l; expected = 3 }))) out
 going-full s i₀ l₀ out₀ i l m e out c g h he t n r =
     let k = g .enough in
     going-stop s i₀ l₀ out₀ i l m out (some (record { line = l; expected = 3 })) g

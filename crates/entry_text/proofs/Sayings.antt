@@ -16,7 +16,7 @@ use Rattle.entry_text.specs.declared.lines.CircuitLine.the-variants.{Say
 use Rattle.entry_text.specs.declared.lines.Opening.the-variants.{Header, Missing}
 use Rattle.entry_text.specs.Entries.{wordFrom, wordNumber, wordPast, headerIn, circuitIn, foundBy}
 use Rattle.entry_text.specs.Entries as text
-use Rattle.entry_text.specs.Told.{numeralOf, sizesOf, circuitLineOf, opening}
+use Rattle.entry_text.specs.inner.Told.{numeralOf, sizesOf, circuitLineOf, opening}
 
 -- no number was told
 pub none-told : (o : Option ℕ) (r : Numeral) → r ≡ numeralOf o → r ≡ Nothing → o ≡ none

@@ -45,12 +45,12 @@ below limit none = none
 below limit (some v) = cond (ltb v limit) (some v) none
 
 -- the number from i to e: at least one digit, digits only, below the limit
-unfoldable pub numberIn : List ℕ → ℕ → ℕ → ℕ → Option ℕ
-numberIn s i e limit = cond (ltb i e) (below limit (spelt s i (e - i) 0)) none
+unfoldable pub numeralIn : List ℕ → ℕ → ℕ → ℕ → Option ℕ
+numeralIn s i e limit = cond (ltb i e) (below limit (spelt s i (e - i) 0)) none
 
 -- the word that begins first from i on, before e, as a number below the limit
 unfoldable pub wordNumber : List ℕ → ℕ → ℕ → ℕ → Option ℕ
-wordNumber s i e limit = numberIn s (wordFrom s i e) (wordTo s (wordFrom s i e) e) limit
+wordNumber s i e limit = numeralIn s (wordFrom s i e) (wordTo s (wordFrom s i e) e) limit
 
 -- where that word ends
 unfoldable pub wordPast : List ℕ → ℕ → ℕ → ℕ

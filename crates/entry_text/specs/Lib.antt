@@ -1,3 +1,7 @@
 pub mod Entries
 pub mod Entered
-pub mod Told
+pub mod Lines
+pub mod Faults
+pub mod Messages
+pub mod Pair
+pub mod inner

@@ -2,21 +2,29 @@
 use crate::lines::CircuitLine;
 use crate::lines::Opening;
 ghost use mathlib.Core.Path.{_≡_};
-ghost use mathlib.Core.List.{_++_};
-ghost use Prim.Native.Nat.{suc, _+_, _*_, _/_, _≤_};
-ghost use lib.ListN.{length, drop};
-ghost use Rattle.records.specs.Records.{fileOf};
-ghost use Rattle.entry_text.specs.Entries.{read, circuitsFrom};
-ghost use Rattle.entry_text.specs.Entered.{entryOf};
-ghost use Rattle.entry_text.specs.Told.{ending};
+ghost use Prim.Native.Nat.{_+_, _/_, _≤_};
+ghost use lib.ListN.{length};
+ghost use Rattle.entry_text.specs.Entered.{Enters};
+ghost use Rattle.entry_text.specs.Pair.{MadeOf};
+ghost use Rattle.records.specs.LineFiles.{lineBytes};
+ghost use Rattle.entry_text.specs.inner.Told.{Reads};
 
+pub mod faults;
 mod lines;
+pub mod messages;
+pub mod numbering;
 mod words;
 
 // The line's n and w and how many circuits, or the first line that is wrong, counted from 1, and what was expected there.
 pub enum Entry {
     Entered { n: u16, w: u16, circuits: usize },
     Wrong { line: usize, expected: u32 },
+}
+
+// How many bytes circuits.rec and the message have, or how many the message has where there are no files.
+pub enum Made {
+    Both { circuits: usize, message: usize },
+    Neither(usize),
 }
 
 // How many circuits there are, or where reading stopped.
@@ -28,9 +36,7 @@ enum Ending {
 // Writes the circuits of the lines from `start` on, of which the first is numbered `first`.
 fn read_circuits(text: &[u8], out: &mut [u8], start: usize, first: usize) -> Ending
     requires { ⌜ (length (now text) ≤ 1048576) × (start ≤ length (now text) + 1) × (first ≤ start + 1) ⌝ }
-    ensures { λ r. ⌜ (r ≡ ending (circuitsFrom (suc (length (now (text .entry)))) (now (text .entry)) start first (length (now (out .entry)) / 8)))
-        × (now (out .exit) ≡ fileOf ((circuitsFrom (suc (length (now (text .entry)))) (now (text .entry)) start first (length (now (out .entry)) / 8)) .circuits)
-        ++ drop (8 * length ((circuitsFrom (suc (length (now (text .entry)))) (now (text .entry)) start first (length (now (out .entry)) / 8)) .circuits)) (now (out .entry))) ⌝ }
+    ensures { λ r. ⌜ Reads (now (text .entry)) start first (now (out .entry)) r (now (out .exit)) ⌝ }
 {
     let room = out.len() / 8;
     let mut i = start;
@@ -59,9 +65,7 @@ fn read_circuits(text: &[u8], out: &mut [u8], start: usize, first: usize) -> End
 
 // Reads `n w` and the circuits of a text into circuit records at the start of `out`.
 pub fn enter(text: &[u8], out: &mut [u8]) -> Entry
-    ensures { λ r. ⌜ (r ≡ entryOf (now (text .entry)) (length (now (out .entry)) / 8))
-        × (now (out .exit) ≡ fileOf ((read (now (text .entry)) (length (now (out .entry)) / 8)) .circuits)
-        ++ drop (8 * length ((read (now (text .entry)) (length (now (out .entry)) / 8)) .circuits)) (now (out .entry))) ⌝ }
+    ensures { λ r. ⌜ Enters (now (text .entry)) (length (now (out .entry)) / 8) (now (out .entry)) r (now (out .exit)) ⌝ }
 {
     if 1048576 < text.len() {
         return Entry::Wrong {
@@ -80,4 +84,39 @@ pub fn enter(text: &[u8], out: &mut [u8]) -> Entry
             }
         }
     }
+}
+
+// The four bytes of line.rec.
+fn write_line(n: u16, w: u16, line: &mut [u8])
+    requires { ⌜ length (now line) ≡ 4 ⌝ }
+    ensures { λ _. ⌜ now (line .exit) ≡ lineBytes n w ⌝ }
+{
+    records::cells::put(line, 0, n);
+    records::cells::put(line, 1, w);
+}
+
+// Makes the bytes of line.rec and circuits.rec of a text, and what is said of it.
+pub fn make_files(text: &[u8], line: &mut [u8], circuits: &mut [u8], message: &mut [u8]) -> Made
+    requires { ⌜ (length (now line) ≡ 4) × (length (now circuits) ≡ 16384) × (76 ≤ length (now message)) ⌝ }
+    ensures { λ r. ⌜ MadeOf (now (text .entry)) r (now (line .exit)) (now (circuits .exit)) (now (message .exit)) ⌝ }
+{
+    let answer = enter(text, circuits);
+    let k = messages::write_message(text, answer, message);
+    match answer {
+        Entry::Entered { n, w, circuits } => {
+            write_line(n, w, line);
+            Made::Both {
+                circuits: 8 * circuits,
+                message: k,
+            }
+        }
+        Entry::Wrong { line, expected } => Made::Neither(k),
+    }
+}
+
+// A buffer for a byte more than the longest text, to tell that a text is too long.
+pub fn buffer() -> [u8; 1048577]
+    ensures { λ r. ⌜ 1048577 ≡ length r ⌝ }
+{
+    [0; 1048577]
 }

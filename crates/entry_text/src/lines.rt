@@ -5,7 +5,7 @@ ghost use mathlib.Core.Path.{_≡_};
 ghost use Prim.Native.Nat.{suc, _≤_};
 ghost use lib.ListN.{length};
 ghost use Rattle.entry_text.specs.Entries.{idleLine, headerIn, circuitIn, foundBy, headerFrom};
-ghost use Rattle.entry_text.specs.Told.{sizesOf, circuitLineOf, opening};
+ghost use Rattle.entry_text.specs.inner.Told.{sizesOf, circuitLineOf, opening};
 
 // What a line says that should be `n w`.
 pub enum Sizes {

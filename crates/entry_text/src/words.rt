@@ -2,8 +2,8 @@
 ghost use mathlib.Core.Path.{_≡_};
 ghost use Prim.Native.Nat.{_-_, _≤_, _<_};
 ghost use lib.ListN.{length};
-ghost use Rattle.entry_text.specs.Entries.{isSpace, lineEnd, wordFrom, wordTo, spelt, below, numberIn, wordNumber, wordPast};
-ghost use Rattle.entry_text.specs.Told.{numeralOf};
+ghost use Rattle.entry_text.specs.Entries.{isSpace, lineEnd, wordFrom, wordTo, spelt, below, numeralIn, wordNumber, wordPast};
+ghost use Rattle.entry_text.specs.inner.Told.{numeralOf};
 
 // A number, or that there is none.
 pub enum Numeral {
@@ -62,7 +62,7 @@ pub fn word_from(text: &[u8], start: usize, e: usize) -> usize
 }
 
 // Where the word that begins at `start` ends.
-fn word_to(text: &[u8], start: usize, e: usize) -> usize
+pub fn word_to(text: &[u8], start: usize, e: usize) -> usize
     requires { ⌜ (start ≤ e) × (e ≤ length (now text)) ⌝ }
     ensures { λ r. ⌜ (r ≡ wordTo (now (text .entry)) start e) × (start ≤ r) × (r ≤ e) ⌝ }
 {
@@ -101,9 +101,9 @@ fn spell(text: &[u8], start: usize, e: usize, limit: u64) -> Numeral
 }
 
 // The number from `start` to before e: at least one digit, digits only, below the limit.
-fn number_in(text: &[u8], start: usize, e: usize, limit: u64) -> Numeral
+fn numeral_in(text: &[u8], start: usize, e: usize, limit: u64) -> Numeral
     requires { ⌜ (start ≤ e) × (e ≤ length (now text)) × (1 ≤ limit) × (limit ≤ 4294967296) ⌝ }
-    ensures { λ r. ⌜ r ≡ numeralOf (numberIn (now (text .entry)) start e limit) ⌝ }
+    ensures { λ r. ⌜ r ≡ numeralOf (numeralIn (now (text .entry)) start e limit) ⌝ }
 {
     if e <= start {
         return Numeral::Nothing;
@@ -118,7 +118,7 @@ pub fn word_number(text: &[u8], start: usize, e: usize, limit: u64) -> Numeral
 {
     let a = word_from(text, start, e);
     let b = word_to(text, a, e);
-    number_in(text, a, b, limit)
+    numeral_in(text, a, b, limit)
 }
 
 // Where that word ends.

@@ -3,7 +3,9 @@
 use Prim.Native.Nat.{ℕ, zero, suc}
 use mathlib.Core.Path.{_≡_}
 use mathlib.Core.List.{List}
-use Rattle.strands.specs.declared.Counts.{Counts}
+use Rattle.records.specs.declared.Line.{Line}
+use Rattle.register.specs.Areas.{Areas}
+use Rattle.register.specs.declared.Counts.{Counts}
 use Rattle.planner.specs.Outcome.{Outcome}
 use Rattle.planner.specs.declared.Answer.{Answer}
 use Rattle.planner.specs.declared.Answer.the-variants.{Planned, Refused}
@@ -23,7 +25,11 @@ toldBy (suc k) place counts = Refused (suc k) place
 abbrev pub told : PlanAnswer → Answer
 told r = toldBy (r .refusal) (r .place) (record { fibres = r .fibres; total = r .total; floor = r .floor })
 
+-- the line that a caller names by two numbers
+abbrev pub lineOf : ℕ → ℕ → Line
+lineOf links wavelengths = record { links = links; wavelengths = wavelengths }
+
 -- the answer that is told and every byte of the three lent areas are an outcome of `plan`, and the struct tells nothing else
-pub record Exported (n w : ℕ) (s fibres₀ assigns₀ work₀ fibres₁ assigns₁ work₁ : List ℕ) (r : PlanAnswer) : Type 0 where
-  pub outcome : Outcome n w s fibres₀ assigns₀ work₀ fibres₁ assigns₁ work₁ (told r)
+pub record Exported (line : Line) (s : List ℕ) (before after : Areas) (r : PlanAnswer) : Type 0 where
+  pub outcome : Outcome line s before after (told r)
   pub plain : r ≡ flat (told r)

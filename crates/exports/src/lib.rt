@@ -1,7 +1,9 @@
 // The planner for callers in C and Rust: the answer's enum as a plain struct of numbers.
 use planner::Answer;
+use records::Line;
 ghost use mathlib.Core.Path.{_≡_};
-ghost use Rattle.exports.specs.Exported.{flat, Exported};
+ghost use Rattle.register.specs.Areas.{areas};
+ghost use Rattle.exports.specs.Exported.{flat, lineOf, Exported};
 
 // Planned where `refusal` is 0, with the three numbers; else the refusal's number and place, and zeros.
 #[repr(C)]
@@ -45,8 +47,9 @@ pub extern "C" fn fibre_plan(
     assignments: &mut [u8],
     work: &mut [u8],
 ) -> PlanAnswer
-    ensures { λ r. ⌜ Exported links wavelengths (now (circuits .entry)) (now (fibres .entry)) (now (assignments .entry)) (now (work .entry)) (now (fibres .exit)) (now (assignments .exit)) (now (work .exit)) r ⌝ }
+    ensures { λ r. ⌜ Exported (lineOf links wavelengths) (now (circuits .entry)) (areas (now (fibres .entry)) (now (assignments .entry)) (now (work .entry))) (areas (now (fibres .exit)) (now (assignments .exit)) (now (work .exit))) r ⌝ }
 {
-    let a = planner::plan(links, wavelengths, circuits, fibres, assignments, work);
+    let line = Line { links, wavelengths };
+    let a = planner::plan(line, circuits, fibres, assignments, work);
     flattened(a)
 }

@@ -6,7 +6,7 @@ use lib.ListN.{length}
 use lib.Seq.{length-take-le}
 use Rattle.io.specs.Counts.{Counts}
 use Rattle.io.specs.Digits.{Fewest}
-use Rattle.files.specs.Moves.{Taken, Read, Wrote, WroteDigits}
+use Rattle.files.specs.Moves.{Taken, Read, WroteAll, WroteDigits}
 use Rattle.files.specs.declared.Moved.{Moved}
 use Rattle.files.specs.declared.Moved.the-variants.{Bytes, Failed}
 use Rattle.files.specs.declared.Turn.{Turn}
@@ -25,6 +25,6 @@ pub came : {t : Moved} {k : ℕ} (buf : List ℕ) → t ≡ Bytes k → Read t b
 came {t} {k} buf e h = let z : Counts k buf = subst (λ (u : Moved). Read u buf) e h in z .0
 
 -- all of the n digits of x were written
-pub digits-written : (t : Moved) (n x : ℕ) → Fewest 10 1 x n → Wrote t n → WroteDigits t x
+pub digits-written : (t : Moved) (n x : ℕ) → Fewest 10 1 x n → WroteAll t n → WroteDigits t x
 digits-written (Bytes k) n x f e = subst (Fewest 10 1 x) (sym e) f
 digits-written Failed n x f e = tt

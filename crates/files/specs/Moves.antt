@@ -1,4 +1,5 @@
--- What can be said of a read or a write: what C moved is not known, how much it was handed is. Assumes nothing.
+-- What can be said of a read or a write: what C moved is not known, how much it was handed is. What a reader must believe.
+-- Assumes nothing.
 use Prim.Native.Nat.{ℕ, _≤_}
 use mathlib.Core.Path.{_≡_}
 use mathlib.Core.List.{List}
@@ -15,15 +16,15 @@ Taken (Took k) most = k ≤ most
 Taken Nothing most = Unit
 Taken Broken most = Unit
 
--- what was read stands at the start of the buffer
+-- no more was read than the buffer holds
 abbrev pub Read : Moved → List ℕ → Type 0
 Read (Bytes k) buf = Counts k buf
 Read Failed buf = Unit
 
 -- what was written is all of it
-abbrev pub Wrote : Moved → ℕ → Type 0
-Wrote (Bytes k) most = k ≡ most
-Wrote Failed most = Unit
+abbrev pub WroteAll : Moved → ℕ → Type 0
+WroteAll (Bytes k) most = k ≡ most
+WroteAll Failed most = Unit
 
 -- what was written is as many bytes as x has decimal digits
 abbrev pub WroteDigits : Moved → ℕ → Type 0

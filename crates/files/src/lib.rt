@@ -2,7 +2,9 @@
 use libc::STDIN_FILENO;
 use libc::STDOUT_FILENO;
 ghost use lib.ListN.{length};
-ghost use Rattle.files.specs.Moves.{Taken, Read, Wrote, WroteDigits};
+ghost use Rattle.files.specs.Moves.{Taken, Read, WroteAll, WroteDigits};
+
+pub mod pair;
 
 // How many bytes were moved, or that the file could not be opened, read or written.
 pub enum Moved {
@@ -75,7 +77,7 @@ fn write_some(fd: i32, part: &[u8]) -> Turn
 
 // Writes all of the buffer.
 fn write_all(fd: i32, buf: &[u8]) -> Moved
-    ensures { λ r. ⌜ Wrote r (length (now (buf .entry))) ⌝ }
+    ensures { λ r. ⌜ WroteAll r (length (now (buf .entry))) ⌝ }
 {
     let mut done = 0;
     let mut turns = TURNS;
@@ -116,7 +118,7 @@ pub fn read_input(buf: &mut [u8]) -> Moved
 
 // Writes all of the buffer to standard output.
 pub fn write_output(buf: &[u8]) -> Moved
-    ensures { λ r. ⌜ Wrote r (length (now (buf .entry))) ⌝ }
+    ensures { λ r. ⌜ WroteAll r (length (now (buf .entry))) ⌝ }
 {
     write_all(STDOUT_FILENO, buf)
 }
@@ -128,35 +130,4 @@ pub fn write_number(x: u64) -> Moved
     let mut text = [0u8; 20];
     let k = io::decimal(x, &mut text);
     write_output(&text[..k])
-}
-
-// Writes all of the buffer to a new file and closes it.
-fn write_new(name: &[u8], buf: &[u8]) -> Moved
-    ensures { λ r. ⌜ Wrote r (length (now (buf .entry))) ⌝ }
-{
-    let fd = os::open_overwrite(name);
-    if fd < 0 {
-        return Moved::Failed;
-    }
-    let put = write_all(fd, buf);
-    if libc::close(fd) < 0 {
-        return Moved::Failed;
-    }
-    put
-}
-
-// Makes a file of exactly these bytes: under the name `draft` first, which takes the place of the file `name` only when all is written.
-pub fn write_file(name: &[u8], draft: &[u8], buf: &[u8]) -> Moved
-    ensures { λ r. ⌜ Wrote r (length (now (buf .entry))) ⌝ }
-{
-    let put = write_new(draft, buf);
-    let Moved::Bytes(_) = put else {
-        os::unlink(draft);
-        return Moved::Failed;
-    };
-    if os::rename(draft, name) < 0 {
-        os::unlink(draft);
-        return Moved::Failed;
-    }
-    put
 }

@@ -1,3 +1,2 @@
 pub mod Halves
-pub mod Chains
-pub mod Reach
+pub mod inner

@@ -1,4 +1,4 @@
--- Bench cases 1 to 8, and a table of our own with the slips that they miss. `proofs/Bench.antt` shows that each holds.
+-- Bench cases 1 to 8, and a table of our own with the slips that they miss. `proofs/Bench.antt` shows that each holds. What a reader must believe.
 -- Assumes nothing.
 use Prim.Native.Nat.{_<_, _≤_, ℕ}
 use lib.ListN.{length}

@@ -1,5 +1,5 @@
 -- What is promised of the plan of the two-phase method: demands 2 and 3. `proofs/Demands.antt` shows that it holds for every n, every w ≥ 1 and every list of
--- circuits that lie on the line.
+-- circuits that lie on the line. What a reader must believe.
 -- Assumes nothing.
 use Prim.Native.Nat.{_*_, _+_, _-_, _<_, _≤_, suc, ℕ}
 use lib.Dec.{eqb}

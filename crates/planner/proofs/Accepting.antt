@@ -5,50 +5,83 @@ use mathlib.Core.List.{List}
 use mathlib.Core.Path.{_∙_, ap, sym}
 use native.Mathlib.Omega.{arith}
 use Rattle.records.specs.Records.{circuitsOf}
+use Rattle.records.specs.declared.Line.{Line}
 use Rattle.records.proofs.Files.{circuitsIn-at, length-circuitsIn}
 use Rattle.method.specs.Line.{Distinct, Lies, circuit, nobody}
 use Rattle.refusals.specs.Given.{NoneApplies}
-use Rattle.refusals.specs.Table.{planTable}
-use Rattle.rows.specs.Accepted.{Accepted}
+use Rattle.refusals.specs.Table.{fileRows, lineRows, recordRows, circuitRows, areaRows, planTable}
 use Rattle.refusals.proofs.Passed.{passed1, passed10, passed2, passed3, passed4, passed6, passed7, passed8, passed9}
+use Rattle.refusals.proofs.Pieces.{none-first, none-left, none-rest, none-right}
+use Rattle.rows.specs.Accepted.{Accepted}
 
-module _ (n w : ℕ) (s : List ℕ) (fibres assigns work : ℕ) (passed : NoneApplies (planTable n w s fibres assigns work)) where
+module _ (line : Line) (s : List ℕ) (passed : NoneApplies (circuitRows line s)) where
+  -- no test of the file applies
+  pub of-file : NoneApplies (fileRows s)
+  unfolding circuitRows
+  of-file = none-left (fileRows s) _ passed
+
+  -- no test of the line
+  pub of-line : NoneApplies (lineRows line)
+  unfolding circuitRows
+  of-line = none-left (lineRows line) _ (none-right (fileRows s) _ passed)
+
+  -- no test of the records
+  pub of-records : NoneApplies (recordRows (line .links) (length s / 8) s)
+  unfolding circuitRows
+  of-records = none-left (recordRows (line .links) (length s / 8) s) _ (none-right (lineRows line) _ (none-right (fileRows s) _ passed))
+
   -- every circuit lies on the line
-  lies : Lies n (circuitsOf s)
-  unfolding planTable
+  lies : Lies (line .links) (circuitsOf s)
+  unfolding recordRows
   lies j l =
-      let b : j < length s / 8 = omega (arith, length-circuitsIn (length s / 8) s) in
-      rw (circuitsIn-at (length s / 8) s j nobody b) (passed6 n s (length s / 8) (passed 5 (omega arith)) j b)
+      let m = length s / 8 in
+      let b : j < m = omega (arith, length-circuitsIn m s) in
+      rw (circuitsIn-at m s j nobody b) (passed6 (line .links) s m (none-first _ _ (none-rest _ _ of-records)) j b)
 
   -- no number stands twice
-  pub distinct : Distinct (circuitsOf s)
-  unfolding planTable circuit
+  distinct : Distinct (circuitsOf s)
+  unfolding recordRows circuit
   distinct i j a b e =
       let m = length s / 8 in
       let k = length-circuitsIn m s in
       let x : i < m = omega arith in
       let y : j < m = omega arith in
-      passed7 s m (passed 6 (omega arith)) i j x y (ap (λ c. c .number) (sym (circuitsIn-at m s i nobody x)) ∙ e ∙ ap (λ c. c .number) (circuitsIn-at m s j nobody y))
+      passed7 s m (none-first _ _ (none-rest _ _ (none-rest _ _ of-records))) i j x y
+      (ap (λ c. c .number) (sym (circuitsIn-at m s i nobody x)) ∙ e ∙ ap (λ c. c .number) (circuitsIn-at m s j nobody y))
 
   -- the file is accepted
-  pub accepted : Accepted n w (length s / 8) s
-  unfolding planTable
+  pub accepted : Accepted (line .links) (line .wavelengths) (length s / 8) s
+  unfolding fileRows lineRows
   accepted =
-      let v = passed4 40 w (passed 3 (omega arith)) in
+      let v = passed4 40 (line .wavelengths) (none-first _ _ (none-rest _ _ of-line)) in
       record {
-        line = passed3 512 n (passed 2 (omega arith)) .1;
+        file = record {
+          line = passed3 512 (line .links) (none-first _ _ of-line) .1;
+          few = passed2 (length s / 8) (none-first _ _ (none-rest _ _ of-file));
+          whole = passed1 s (none-first _ _ of-file);
+          lies = lies;
+          distinct = distinct;
+        };
         waves = (v .0, omega arith);
-        few = passed2 (length s / 8) (passed 1 (omega arith));
-        whole = passed1 s (passed 0 (omega arith));
-        lies = lies;
-        distinct = distinct;
       }
 
-  -- the lent areas are long enough
-  pub rooms : (16 * (length s / 8) ≤ fibres) × (8 * (length s / 8) ≤ assigns) × (4 * n + 4 * (length s / 8) ≤ work)
+module _ (line : Line) (s : List ℕ) (fibres assigns work : ℕ) (passed : NoneApplies (planTable line s fibres assigns work)) where
+  -- no test of the circuits applies
+  pub of-circuits : NoneApplies (circuitRows line s)
   unfolding planTable
-  rooms = (
-    passed8 16 (length s / 8) fibres (passed 7 (omega arith)),
-    passed9 (length s / 8) assigns (passed 8 (omega arith)),
-    passed10 n (length s / 8) work (passed 9 (omega arith)),
-  )
+  of-circuits = none-left (circuitRows line s) _ passed
+
+  -- no test of the lent areas
+  pub of-areas : NoneApplies (areaRows (line .links) (length s / 8) fibres assigns work)
+  unfolding planTable
+  of-areas = none-left (areaRows (line .links) (length s / 8) fibres assigns work) _ (none-right (circuitRows line s) _ passed)
+
+  -- the lent areas are long enough
+  pub rooms : (16 * (length s / 8) ≤ fibres) × (8 * (length s / 8) ≤ assigns) × (4 * line .links + 4 * (length s / 8) ≤ work)
+  unfolding areaRows
+  rooms =
+      let m = length s / 8 in (
+        passed8 16 m fibres (none-first _ _ of-areas),
+        passed9 m assigns (none-first _ _ (none-rest _ _ of-areas)),
+        passed10 (line .links) m work (none-first _ _ (none-rest _ _ (none-rest _ _ of-areas))),
+      )

@@ -3,240 +3,248 @@ use Prim.Native.Nat.{_*_, _+_, _/_, _<_, suc, ℕ}
 use lib.ListN.{drop, getD, length, length-replicate, replicate, take}
 use lib.Seq.{drop-at, take-at}
 use mathlib.Core.List.{List, _++_}
+use mathlib.Core.Option.{some}
 use mathlib.Core.Path.{_∙_, _≡_, ap, refl, subst, sym}
 use native.Mathlib.Omega.{arith}
-use Rattle.records.specs.Records.{assignmentBytes, circuitOf, circuitsOf, recordAt}
+use Rattle.basics.proofs.Tables.{length-each}
+use Rattle.records.specs.Records.{assignmentBytes, circuitsOf, numberIn, recordAt}
+use Rattle.records.specs.declared.Line.{Line}
 use Rattle.records.proofs.Files.{circuitsIn-at, length-circuitsIn}
 use Rattle.method.specs.Demands.{SamePlan}
-use Rattle.method.specs.Fibres.{assignments, fibres, plan}
+use Rattle.method.specs.Fibres.{assignments, fibres, given, plan}
 use Rattle.method.specs.Line.{Plan, Valid, assigned, circuit, fibresOver, noFibre, nobody, total, unassigned}
-use Rattle.planner.specs.declared.Answer.the-variants.{Planned, Refused}
-use Rattle.refusals.specs.declared.Test.the-variants.{Checked, Refused as Failed}
-use Rattle.planner.specs.Outcome.{Outcome, answerBy, ifAccepted, judged, zeroedTo}
-use Rattle.planner.specs.Seen.{SameSheet, Seen, Seen1, Seen2, Seen3, TwoOrders, planIn, tests}
-use Rattle.planner.specs.declared.Answer.{Answer}
-use Rattle.refusals.specs.Given.{NoneApplies}
-use Rattle.refusals.specs.Table.{Row, planTable}
-use Rattle.refusals.specs.declared.Test.{Test}
-use Rattle.rows.specs.Accepted.{Accepted}
-use Rattle.strands.specs.Laid.{assignmentList, countsOf, fibreList}
-use Rattle.strands.specs.Lists.{assignmentRecord, assignmentRecords, fibreRecord, fibreRecords}
-use Rattle.strands.specs.declared.Counts.{Counts}
+use Rattle.method.specs.Sheet.{rows}
 use Rattle.method.proofs.Demands.{demand-2, demand-3}
-use Rattle.planner.proofs.Accepting.{accepted, distinct}
-use Rattle.planner.proofs.Reading.{assignment-read, assignment-record, fibre-read, fibre-record, length-assignmentRecords, length-assignments, length-fibreRecords, plan-read}
+use Rattle.refusals.specs.Given.{Given, NoneApplies}
+use Rattle.refusals.specs.Refusals.{Refusal, refusedWith}
+use Rattle.refusals.specs.declared.Verdict.{Verdict}
+use Rattle.refusals.specs.declared.Verdict.the-variants.{Checked, Refused as Failed}
+use Rattle.refusals.proofs.First.{refused-same, verdict-given, verdict-passed, verdict-passes, verdict-refused}
+use Rattle.register.specs.Areas.{Areas, zeroedTo}
+use Rattle.register.specs.Lists.{assignmentList, assignmentRecord, assignmentRecords, countsOf, fibreList, fibreRecord, fibreRecords}
+use Rattle.register.specs.Plans.{planIn}
+use Rattle.register.specs.declared.Counts.{Counts}
+use Rattle.register.proofs.Reading.{assignment-read, assignment-record, fibre-read, fibre-record, length-assignmentRecords, length-fibreRecords, plan-read}
+use Rattle.rows.specs.Accepted.{Accepted}
+use Rattle.planner.specs.Outcome.{Outcome, answerBy, ifAccepted, judged, numbersOf, planOf, refusalOf, tableFor}
+use Rattle.planner.specs.Seen.{SameSheet, Seen, Seen1, Seen2, Seen3, TwoOrders, held, used}
+use Rattle.planner.specs.declared.Answer.{Answer}
+use Rattle.planner.specs.declared.Answer.the-variants.{Planned, Refused}
+use Rattle.planner.proofs.Accepting.{accepted, of-circuits}
 use Rattle.planner.proofs.Reordered.{reordered-passes}
-use Rattle.refusals.proofs.First.{verdict-given, verdict-passed, verdict-passes, verdict-refused}
 
--- a planned answer is no refusal
-planned-not-refused : {A : Type 0} {counts : Counts} {number place : ℕ} → Planned counts ≡ Refused number place → A
-planned-not-refused e = absurd (let z : _≡_ {A = ℕ} 0 1 = cc in omega arith)
+-- the plan gives something to each circuit
+pub length-assignments : (n w : ℕ) (cs : List _) → length (assignments n w cs) ≡ length cs
+unfolding assignments
+length-assignments n w cs = length-each (given n w cs (rows n w cs)) 0 (length cs)
 
-module _ (n w : ℕ) (s fibres₀ assigns₀ work₀ fibres₁ assigns₁ work₁ : List ℕ) (answer : Answer) (o : Outcome n w s fibres₀ assigns₀ work₀ fibres₁ assigns₁ work₁ answer) where
-  -- the table of refusals for this input
-  abbrev rows-of : List Row
-  rows-of = tests n w s fibres₀ assigns₀ work₀ fibres₁ assigns₁ work₁
-
+module _ (line : Line) (s : List ℕ) (before after : Areas) (answer : Answer) (o : Outcome line s before after answer) where
   -- a refusal is the verdict's, and changes nothing
-  refused-so : (number place : ℕ) → answer ≡ Refused number place
-      → (judged n w s fibres₀ assigns₀ work₀ ≡ Failed number place) × (fibres₁ ≡ fibres₀) × (assigns₁ ≡ assigns₀) × (work₁ ≡ work₀)
-  refused-so number place e = go (judged n w s fibres₀ assigns₀ work₀) refl (o .answered) (o .listed) (o .assigned) (o .cleared)
+  refused-so : (r : Refusal) → refusalOf answer ≡ some r → (judged line s before ≡ refusedWith r) × (after ≡ before)
+  refused-so r e = go (judged line s before) refl (o .answered) (o .listed) (o .assigned) (o .cleared)
     where
-      go : (t : Test) → judged n w s fibres₀ assigns₀ work₀ ≡ t → answer ≡ answerBy t (countsOf n w (circuitsOf s))
-          → fibres₁ ≡ ifAccepted t (fibreList n w 0 (circuitsOf s) fibres₀) fibres₀
-          → assigns₁ ≡ ifAccepted t (assignmentList n w 0 (circuitsOf s) assigns₀) assigns₀
-          → work₁ ≡ ifAccepted t (zeroedTo (4 * n + 4 * (length s / 8)) work₀) work₀
-          → (judged n w s fibres₀ assigns₀ work₀ ≡ Failed number place) × (fibres₁ ≡ fibres₀) × (assigns₁ ≡ assigns₀) × (work₁ ≡ work₀)
-      go (Checked m) q a f g h = planned-not-refused (sym a ∙ e)
-      go (Failed k p) q a f g h = let z : Refused k p ≡ Refused number place = sym a ∙ e in (q ∙ (let y : Failed k p ≡ Failed number place = cc in y), f, g, h)
+      go : (t : Verdict) → judged line s before ≡ t → answer ≡ answerBy t (numbersOf line s)
+          → after .fibres ≡ ifAccepted t (fibreList 0 ((planOf line s) .fibres) (before .fibres)) (before .fibres)
+          → after .assigns ≡ ifAccepted t (assignmentList 0 (circuitsOf s) ((planOf line s) .assignments) (before .assigns)) (before .assigns)
+          → after .work ≡ ifAccepted t (zeroedTo (4 * line .links + 4 * (length s / 8)) (before .work)) (before .work)
+          → (judged line s before ≡ refusedWith r) × (after ≡ before)
+      go (Checked m) q a f g h = let z = sym (ap refusalOf a) ∙ e in absurd (let y : _≡_ {A = ℕ} 0 1 = cc in omega arith)
+      go (Failed k p) q a f g h =
+          let z = sym (ap refusalOf a) ∙ e in
+          (q ∙ (let y : Failed k p ≡ refusedWith r = cc in y), λ i. record { fibres = f i; assigns = g i; work = h i })
 
   -- a planned answer has the method's numbers, and the lists are written
   planned-so : (counts : Counts) → answer ≡ Planned counts
-      → NoneApplies rows-of × (counts ≡ countsOf n w (circuitsOf s)) × (fibres₁ ≡ fibreList n w 0 (circuitsOf s) fibres₀)
-      × (assigns₁ ≡ assignmentList n w 0 (circuitsOf s) assigns₀) × (work₁ ≡ zeroedTo (4 * n + 4 * (length s / 8)) work₀)
+      → NoneApplies (tableFor line s before) × (counts ≡ numbersOf line s) × (after .fibres ≡ fibreList 0 ((planOf line s) .fibres) (before .fibres))
+      × (after .assigns ≡ assignmentList 0 (circuitsOf s) ((planOf line s) .assignments) (before .assigns))
+      × (after .work ≡ zeroedTo (4 * line .links + 4 * (length s / 8)) (before .work))
   unfolding judged
-  planned-so counts e = go (judged n w s fibres₀ assigns₀ work₀) refl (o .answered) (o .listed) (o .assigned) (o .cleared)
+  planned-so counts e = go (judged line s before) refl (o .answered) (o .listed) (o .assigned) (o .cleared)
     where
-      go : (t : Test) → judged n w s fibres₀ assigns₀ work₀ ≡ t → answer ≡ answerBy t (countsOf n w (circuitsOf s))
-          → fibres₁ ≡ ifAccepted t (fibreList n w 0 (circuitsOf s) fibres₀) fibres₀
-          → assigns₁ ≡ ifAccepted t (assignmentList n w 0 (circuitsOf s) assigns₀) assigns₀
-          → work₁ ≡ ifAccepted t (zeroedTo (4 * n + 4 * (length s / 8)) work₀) work₀
-          → NoneApplies rows-of × (counts ≡ countsOf n w (circuitsOf s)) × (fibres₁ ≡ fibreList n w 0 (circuitsOf s) fibres₀)
-          × (assigns₁ ≡ assignmentList n w 0 (circuitsOf s) assigns₀) × (work₁ ≡ zeroedTo (4 * n + 4 * (length s / 8)) work₀)
+      go : (t : Verdict) → judged line s before ≡ t → answer ≡ answerBy t (numbersOf line s)
+          → after .fibres ≡ ifAccepted t (fibreList 0 ((planOf line s) .fibres) (before .fibres)) (before .fibres)
+          → after .assigns ≡ ifAccepted t (assignmentList 0 (circuitsOf s) ((planOf line s) .assignments) (before .assigns)) (before .assigns)
+          → after .work ≡ ifAccepted t (zeroedTo (4 * line .links + 4 * (length s / 8)) (before .work)) (before .work)
+          → NoneApplies (tableFor line s before) × (counts ≡ numbersOf line s) × (after .fibres ≡ fibreList 0 ((planOf line s) .fibres) (before .fibres))
+          × (after .assigns ≡ assignmentList 0 (circuitsOf s) ((planOf line s) .assignments) (before .assigns))
+          × (after .work ≡ zeroedTo (4 * line .links + 4 * (length s / 8)) (before .work))
       go (Checked m) q a f g h =
-          let z : Planned (countsOf n w (circuitsOf s)) ≡ Planned counts = sym a ∙ e in
-          (verdict-passed rows-of (length s / 8) m q .1, cc, f, g, h)
-      go (Failed k p) q a f g h = planned-not-refused (sym e ∙ a)
+          let z : Planned (numbersOf line s) ≡ Planned counts = sym a ∙ e in
+          (verdict-passed (tableFor line s before) (length s / 8) m q .1, cc, f, g, h)
+      go (Failed k p) q a f g h = let z = sym e ∙ a in absurd (let y : _≡_ {A = ℕ} 0 1 = cc in omega arith)
 
   -- demand 1
-  pub seen-1 : Seen1 n w s fibres₀ assigns₀ work₀ fibres₁ assigns₁ work₁ answer
+  pub seen-1 : Seen1 line s before after answer
   unfolding judged
   seen-1 =
       record {
-        as-tabled = λ number place e. verdict-refused rows-of (length s / 8) number place (refused-so number place e .0);
-        whenever-tabled = λ number place g. o .answered ∙ ap (λ (t : Test). answerBy t (countsOf n w (circuitsOf s))) (verdict-given rows-of (length s / 8) number place g);
-        otherwise-planned = λ f. (countsOf n w (circuitsOf s), o .answered ∙ ap (λ (t : Test). answerBy t (countsOf n w (circuitsOf s))) (verdict-passes rows-of (length s / 8) f));
-        unchanged = λ number place e. let r = refused-so number place e in (r .1, r .2, r .3);
+        as-tabled = λ r e. verdict-refused (tableFor line s before) (length s / 8) r (refused-so r e .0);
+        whenever-tabled = λ r g. ap refusalOf (o .answered ∙ ap (λ (t : Verdict). answerBy t (numbersOf line s)) (verdict-given (tableFor line s before) (length s / 8) r g));
+        otherwise-planned = λ f. (numbersOf line s, o .answered ∙ ap (λ (t : Verdict). answerBy t (numbersOf line s)) (verdict-passes (tableFor line s before) (length s / 8) f));
+        unchanged = λ r e. refused-so r e .1;
       }
 
   module _ (counts : Counts) (e : answer ≡ Planned counts) where
     -- what the tests left
-    took : Accepted n w (length s / 8) s
-    took = accepted n w s (length fibres₀) (length assigns₀) (length work₀) (planned-so counts e .0)
+    took : Accepted (line .links) (line .wavelengths) (length s / 8) s
+    took = accepted line s (of-circuits line s _ _ _ (planned-so counts e .0))
 
     -- how many circuits
     many : length (circuitsOf s) ≡ length s / 8
     many = length-circuitsIn (length s / 8) s
 
+    -- each has an assignment
+    many-given : length ((planOf line s) .assignments) ≡ length (circuitsOf s)
+    unfolding plan
+    many-given = length-assignments (line .links) (line .wavelengths) (circuitsOf s)
+
     -- how many fibres
-    fibre-count : counts .fibres ≡ length (fibres n w (circuitsOf s))
+    pub fibre-count : counts .fibres ≡ length ((planOf line s) .fibres)
     unfolding countsOf
     fibre-count = ap (λ (c : Counts). c .fibres) (planned-so counts e .1)
 
     -- the lists hold the method's plan
-    read-back : planIn (counts .fibres) (length s / 8) fibres₁ assigns₁ ≡ plan n w (circuitsOf s)
+    read-back : held line s before after counts ≡ planOf line s
     read-back =
         let p = planned-so counts e in
-        (λ i. planIn (fibre-count i) (sym many i) (p .2 i) (p .3 i)) ∙ plan-read n w (circuitsOf s) fibres₀ assigns₀
+        (λ i. planIn (fibre-count i) (sym many i) (p .2 i) (p .3 i)) ∙ plan-read (planOf line s) (circuitsOf s) (before .fibres) (before .assigns) many-given
 
     -- the total is that of the plan
-    total-is : counts .total ≡ total (fibres n w (circuitsOf s))
+    total-is : counts .total ≡ total ((planOf line s) .fibres)
     unfolding countsOf
     total-is = ap (λ (c : Counts). c .total) (planned-so counts e .1)
 
     -- the fibre list starts with the records of the fibres
-    pub fibres-are : fibres₁ ≡ fibreRecords 0 (fibres n w (circuitsOf s)) ++ drop (8 * counts .fibres) fibres₀
+    pub fibres-are : after .fibres ≡ fibreRecords 0 ((planOf line s) .fibres) ++ drop (8 * counts .fibres) (before .fibres)
     unfolding fibreList
-    fibres-are = planned-so counts e .2 ∙ ap (λ (k : ℕ). fibreRecords 0 (fibres n w (circuitsOf s)) ++ drop (8 * k) fibres₀) (sym fibre-count)
+    fibres-are = planned-so counts e .2 ∙ ap (λ (k : ℕ). fibreRecords 0 ((planOf line s) .fibres) ++ drop (8 * k) (before .fibres)) (sym fibre-count)
 
     -- the assignment list with those of what the circuits are given
-    pub assigns-are : assigns₁ ≡ assignmentRecords 0 (circuitsOf s) (assignments n w (circuitsOf s)) ++ drop (length s) assigns₀
+    assigns-are : after .assigns ≡ assignmentRecords 0 (circuitsOf s) ((planOf line s) .assignments) ++ drop (length s) (before .assigns)
     unfolding assignmentList
     assigns-are =
-        let k : 8 * length (circuitsOf s) ≡ length s = omega (arith, many, took .whole) in
-        planned-so counts e .3 ∙ ap (λ (x : ℕ). assignmentRecords 0 (circuitsOf s) (assignments n w (circuitsOf s)) ++ drop x assigns₀) k
+        let k : 8 * length (circuitsOf s) ≡ length s = omega (arith, many, took .file .whole) in
+        planned-so counts e .3 ∙ ap (λ (x : ℕ). assignmentRecords 0 (circuitsOf s) ((planOf line s) .assignments) ++ drop x (before .assigns)) k
 
     -- the work area with zeros
-    work-is : work₁ ≡ replicate (4 * n + 4 * (length s / 8)) 0 ++ drop (4 * n + 4 * (length s / 8)) work₀
+    work-is : after .work ≡ replicate (4 * line .links + 4 * (length s / 8)) 0 ++ drop (4 * line .links + 4 * (length s / 8)) (before .work)
     unfolding zeroedTo
     work-is = planned-so counts e .4
 
     -- record i of the fibre list
-    fibre-at : (i : ℕ) → i < counts .fibres → recordAt fibres₁ i ≡ fibreRecord (0 + suc i) (getD (fibres n w (circuitsOf s)) i noFibre)
+    fibre-at : (i : ℕ) → i < counts .fibres → recordAt (after .fibres) i ≡ fibreRecord (0 + suc i) (getD ((planOf line s) .fibres) i noFibre)
     fibre-at i h =
         ap (λ (x : List ℕ). recordAt x i) fibres-are
-        ∙ fibre-record 0 (fibres n w (circuitsOf s)) (drop (8 * counts .fibres) fibres₀) i (omega (arith, fibre-count))
+        ∙ fibre-record 0 ((planOf line s) .fibres) (drop (8 * counts .fibres) (before .fibres)) i (omega (arith, fibre-count))
 
     -- record j of the assignment list
-    pub assignment-at : (j : ℕ) → j < length s / 8 → recordAt assigns₁ j ≡ assignmentRecord 0 (getD (circuitsOf s) j nobody) (getD (assignments n w (circuitsOf s)) j unassigned)
+    pub assignment-at : (j : ℕ) → j < length s / 8 → recordAt (after .assigns) j ≡ assignmentRecord 0 (getD (circuitsOf s) j nobody) (getD ((planOf line s) .assignments) j unassigned)
     assignment-at j h =
         ap (λ (x : List ℕ). recordAt x j) assigns-are
-        ∙ assignment-record 0 (circuitsOf s) (assignments n w (circuitsOf s)) (drop (length s) assigns₀) j (length-assignments n w (circuitsOf s)) (omega (arith, many))
+        ∙ assignment-record 0 (circuitsOf s) ((planOf line s) .assignments) (drop (length s) (before .assigns)) j many-given (omega (arith, many))
 
     -- demand 2
-    pub seen-2 : Seen2 n w s fibres₀ assigns₀ work₀ fibres₁ assigns₁ work₁ counts
-    unfolding plan countsOf
+    pub seen-2 : Seen2 line s before after counts
+    unfolding countsOf
     seen-2 =
         let cs = circuitsOf s in
-        let k = 4 * n + 4 * (length s / 8) in
-        let fr = fibreRecords 0 (fibres n w cs) in
-        let ar = assignmentRecords 0 cs (assignments n w cs) in
+        let p = planOf line s in
+        let k = 4 * line .links + 4 * (length s / 8) in
         record {
           the-plan = read-back;
-          valid = subst (Valid w cs) (sym read-back) (demand-2 n w cs (took .lies) (took .waves .0) .valid);
-          numbered = λ i h. fibre-read (0 + suc i) (getD (fibres n w cs) i noFibre) (recordAt fibres₁ i) (fibre-at i h) .0 ∙ omega arith;
+          valid = subst (Valid (line .wavelengths) cs) (sym read-back) (demand-2 (line .links) (line .wavelengths) cs (took .file .lies) (took .waves .0) .valid);
+          numbered = λ i h. fibre-read (0 + suc i) (getD (p .fibres) i noFibre) (recordAt (after .fibres) i) (fibre-at i h) .0 ∙ omega arith;
           in-file-order = λ j h.
-              assignment-read (getD cs j nobody) (getD (assignments n w cs) j unassigned) (recordAt assigns₁ j) (assignment-at j h) .0
+              assignment-read (getD cs j nobody) (getD (p .assignments) j unassigned) (recordAt (after .assigns) j) (assignment-at j h) .0
               ∙ ap (λ c. c .number) (circuitsIn-at (length s / 8) s j nobody h);
-          the-total = total-is ∙ sym (ap (λ (p : Plan). total (p .fibres)) read-back);
+          the-total = total-is ∙ sym (ap (λ (q : Plan). total (q .fibres)) read-back);
           the-floor = ap (λ (c : Counts). c .floor) (planned-so counts e .1);
           fibres-kept =
               ap (drop (8 * counts .fibres)) fibres-are
-              ∙ drop-at fr (drop (8 * counts .fibres) fibres₀) (8 * counts .fibres) (omega (arith, length-fibreRecords 0 (fibres n w cs), fibre-count));
+              ∙ drop-at (fibreRecords 0 (p .fibres)) (drop (8 * counts .fibres) (before .fibres)) (8 * counts .fibres) (omega (arith, length-fibreRecords 0 (p .fibres), fibre-count));
           assigns-kept =
               ap (drop (length s)) assigns-are
-              ∙ drop-at ar (drop (length s) assigns₀) (length s) (omega (arith, length-assignmentRecords 0 cs (assignments n w cs) (length-assignments n w cs), many, took .whole));
-          work-zeroed = ap (take k) work-is ∙ take-at (replicate k 0) (drop k work₀) k (length-replicate k 0);
-          work-kept = ap (drop k) work-is ∙ drop-at (replicate k 0) (drop k work₀) k (length-replicate k 0);
+              ∙ drop-at (assignmentRecords 0 cs (p .assignments)) (drop (length s) (before .assigns)) (length s)
+              (omega (arith, length-assignmentRecords 0 cs (p .assignments) many-given, many, took .file .whole));
+          work-zeroed = ap (take k) work-is ∙ take-at (replicate k 0) (drop k (before .work)) k (length-replicate k 0);
+          work-kept = ap (drop k) work-is ∙ drop-at (replicate k 0) (drop k (before .work)) k (length-replicate k 0);
         }
 
     -- demand 3
-    pub seen-3 : Seen3 n w s fibres₀ assigns₀ work₀ fibres₁ assigns₁ work₁ counts
+    pub seen-3 : Seen3 line s before after counts
     unfolding plan
     seen-3 =
-        let d = demand-3 n w (circuitsOf s) (took .lies) (took .waves .0) in
+        let d = demand-3 (line .links) (line .wavelengths) (circuitsOf s) (took .file .lies) (took .waves .0) in
         record {
           twice-over = λ p v i a b. omega (arith, ap (λ (q : Plan). fibresOver (q .fibres) i) read-back, d .twice-over p v i a b);
           twice-total = λ p v. omega (arith, total-is, d .twice-total p v);
         }
 
 -- every call of `plan` meets the demands
-pub seen : (n w : ℕ) (s fibres₀ assigns₀ work₀ fibres₁ assigns₁ work₁ : List ℕ) (answer : Answer) → Outcome n w s fibres₀ assigns₀ work₀ fibres₁ assigns₁ work₁ answer
-    → Seen n w s fibres₀ assigns₀ work₀ fibres₁ assigns₁ work₁ answer
-seen n w s fibres₀ assigns₀ work₀ fibres₁ assigns₁ work₁ answer o =
+pub seen : (line : Line) (s : List ℕ) (before after : Areas) (answer : Answer) → Outcome line s before after answer → Seen line s before after answer
+seen line s before after answer o =
     record {
-      demand-1 = seen-1 n w s fibres₀ assigns₀ work₀ fibres₁ assigns₁ work₁ answer o;
-      demand-2 = seen-2 n w s fibres₀ assigns₀ work₀ fibres₁ assigns₁ work₁ answer o;
-      demand-3 = seen-3 n w s fibres₀ assigns₀ work₀ fibres₁ assigns₁ work₁ answer o;
+      demand-1 = seen-1 line s before after answer o;
+      demand-2 = seen-2 line s before after answer o;
+      demand-3 = seen-3 line s before after answer o;
     }
 
 -- TWO CALLS with the same records in another file order, and lent areas of the same lengths
-module _ (n w : ℕ) (s fibres₀ assigns₀ work₀ fibres₁ assigns₁ work₁ s' fibres₀' assigns₀' work₀' fibres₁' assigns₁' work₁' : List ℕ) (answer answer' : Answer)
-    (orders : TwoOrders n w s fibres₀ assigns₀ work₀ fibres₁ assigns₁ work₁ s' fibres₀' assigns₀' work₀' fibres₁' assigns₁' work₁' answer answer')
+module _ (line : Line) (s s' : List ℕ) (before after before' after' : Areas) (answer answer' : Answer) (orders : TwoOrders line s s' before after before' after' answer answer')
     (counts : Counts) (e : answer ≡ Planned counts) where
   -- what the first call's tests left
-  passed : NoneApplies (planTable n w s (length fibres₀) (length assigns₀) (length work₀))
-  passed = planned-so n w s fibres₀ assigns₀ work₀ fibres₁ assigns₁ work₁ answer (orders .one) counts e .0
+  passed : NoneApplies (tableFor line s before)
+  passed = planned-so line s before after answer (orders .one) counts e .0
 
   -- the plans are the same
-  alike : SamePlan n w (circuitsOf s) (circuitsOf s')
+  alike : SamePlan (line .links) (line .wavelengths) (circuitsOf s) (circuitsOf s')
   alike =
-      let a = accepted n w s _ _ _ passed in
-      demand-2 n w (circuitsOf s) (a .lies) (a .waves .0) .any-order (circuitsOf s') (distinct n w s _ _ _ passed) (orders .same)
+      let a = accepted line s (of-circuits line s _ _ _ passed) in
+      demand-2 (line .links) (line .wavelengths) (circuitsOf s) (a .file .lies) (a .waves .0) .any-order (circuitsOf s') (a .file .distinct) (orders .same)
 
   -- the second call's tests leave it too
-  passed' : NoneApplies (planTable n w s' (length fibres₀') (length assigns₀') (length work₀'))
-  passed' = rw (orders .rooms .0, orders .rooms .1, orders .rooms .2) (reordered-passes n w s s' _ _ _ (orders .long) (orders .same) passed)
+  passed' : NoneApplies (tableFor line s' before')
+  passed' = rw (orders .rooms .0, orders .rooms .1, orders .rooms .2) (reordered-passes line s s' _ _ _ (orders .long) (orders .same) passed)
 
   -- so it is planned, with the same numbers
   planned-too : answer' ≡ Planned counts
-  unfolding countsOf
+  unfolding countsOf plan
   planned-too =
-      let p = seen-1 n w s' fibres₀' assigns₀' work₀' fibres₁' assigns₁' work₁' answer' (orders .two) .otherwise-planned passed' in
-      let numbers : countsOf n w (circuitsOf s) ≡ countsOf n w (circuitsOf s') =
+      let p = seen-1 line s' before' after' answer' (orders .two) .otherwise-planned passed' in
+      let numbers : numbersOf line s ≡ numbersOf line s' =
       λ i. record { fibres = length (alike .fibres-same i); total = alike .total-same i; floor = alike .floor-same i } in
       p .1
       ∙ ap Planned
-      (planned-so n w s' fibres₀' assigns₀' work₀' fibres₁' assigns₁' work₁' answer' (orders .two) (p .0) (p .1) .1
+      (planned-so line s' before' after' answer' (orders .two) (p .0) (p .1) .1
       ∙ sym numbers
-      ∙ sym (planned-so n w s fibres₀ assigns₀ work₀ fibres₁ assigns₁ work₁ answer (orders .one) counts e .1))
+      ∙ sym (planned-so line s before after answer (orders .one) counts e .1))
 
   -- the number of a circuit, read and listed
-  number-read : (r : List ℕ) (i : ℕ) → i < length r / 8 → (getD (circuitsOf r) i nobody) .number ≡ (circuitOf (recordAt r i)) .number
+  number-read : (r : List ℕ) (i : ℕ) → i < length r / 8 → (getD (circuitsOf r) i nobody) .number ≡ numberIn r i
   number-read r i h = ap (λ c. c .number) (circuitsIn-at (length r / 8) r i nobody h)
 
   -- and with the same fibre records, and the same assignment record for each circuit
-  pub same-sheet : SameSheet s s' fibres₁ assigns₁ fibres₁' assigns₁' counts answer'
+  pub same-sheet : SameSheet s s' after after' counts answer'
   unfolding assigned plan circuit assignmentRecord
   same-sheet =
-      let fs = fibres n w (circuitsOf s) in
-      let fs' = fibres n w (circuitsOf s') in
-      let many-fibres = fibre-count n w s fibres₀ assigns₀ work₀ fibres₁ assigns₁ work₁ answer (orders .one) counts e in
-      let many-fibres' = fibre-count n w s' fibres₀' assigns₀' work₀' fibres₁' assigns₁' work₁' answer' (orders .two) counts planned-too in
+      let fs = (planOf line s) .fibres in
+      let fs' = (planOf line s') .fibres in
+      let many-fibres = fibre-count line s before after answer (orders .one) counts e in
+      let many-fibres' = fibre-count line s' before' after' answer' (orders .two) counts planned-too in
       record {
         same-answer = planned-too;
         same-fibres =
-            ap (take (8 * counts .fibres)) (fibres-are n w s' fibres₀' assigns₀' work₀' fibres₁' assigns₁' work₁' answer' (orders .two) counts planned-too)
-            ∙ take-at (fibreRecords 0 fs') _ (8 * counts .fibres) (omega (arith, length-fibreRecords 0 fs'))
+            ap (take (8 * counts .fibres)) (fibres-are line s' before' after' answer' (orders .two) counts planned-too)
+            ∙ take-at (fibreRecords 0 fs') _ (8 * counts .fibres) (omega (arith, length-fibreRecords 0 fs', many-fibres'))
             ∙ ap (fibreRecords 0) (sym (alike .fibres-same))
             ∙ sym
-            (ap (take (8 * counts .fibres)) (fibres-are n w s fibres₀ assigns₀ work₀ fibres₁ assigns₁ work₁ answer (orders .one) counts e)
-            ∙ take-at (fibreRecords 0 fs) _ (8 * counts .fibres) (omega (arith, length-fibreRecords 0 fs)));
+            (ap (take (8 * counts .fibres)) (fibres-are line s before after answer (orders .one) counts e)
+            ∙ take-at (fibreRecords 0 fs) _ (8 * counts .fibres) (omega (arith, length-fibreRecords 0 fs, many-fibres)));
         same-assignment = λ i j a b q.
             let number : (getD (circuitsOf s) i nobody) .number ≡ (getD (circuitsOf s') j nobody) .number = number-read s i a ∙ q ∙ sym (number-read s' j b) in
             let given-same = alike .assigned-same i j (omega (arith, length-circuitsIn (length s / 8) s)) (omega (arith, length-circuitsIn (length s' / 8) s')) number in
             sym
-            (assignment-at n w s fibres₀ assigns₀ work₀ fibres₁ assigns₁ work₁ answer (orders .one) counts e i a
+            (assignment-at line s before after answer (orders .one) counts e i a
             ∙ (λ x. assignmentBytes (record { circuit = number x; fibre = 0 + (given-same x) .fibre; wavelength = (given-same x) .wavelength }))
-            ∙ sym (assignment-at n w s' fibres₀' assigns₀' work₀' fibres₁' assigns₁' work₁' answer' (orders .two) counts planned-too j b));
+            ∙ sym (assignment-at line s' before' after' answer' (orders .two) counts planned-too j b));
       }

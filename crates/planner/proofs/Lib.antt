@@ -1,7 +1,6 @@
-pub mod Reading
 pub mod Accepting
+pub mod Judging
 pub mod Pinned
+pub mod Settling
 pub mod Reordered
 pub mod Demands
-pub mod Settling
-pub mod Judging

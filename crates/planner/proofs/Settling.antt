@@ -10,11 +10,10 @@ use Rattle.records.specs.Records.{circuitsIn}
 use Rattle.records.specs.declared.Circuit.{Circuit}
 use Rattle.records.proofs.Files.{length-circuitsIn}
 use Rattle.records.proofs.Parts.{rest-kept}
-use Rattle.method.specs.Fibres.{assignments}
+use Rattle.method.specs.Line.{Assignment}
 use Rattle.rows.specs.Filled.{Filled}
-use Rattle.strands.specs.Laid.{assignmentList}
-use Rattle.strands.specs.Lists.{assignmentRecords}
-use Rattle.planner.specs.Outcome.{zeroedTo}
+use Rattle.register.specs.Areas.{zeroedTo}
+use Rattle.register.specs.Lists.{assignmentList, assignmentRecords}
 
 -- the first k bytes, when they are back, are what came back
 back-again : (k : ℕ) (xs ys : List ℕ) → length ys ≡ k - 0 → midOf 0 (k - 0) (putMid 0 (k - 0) xs ys) ≡ ys
@@ -29,12 +28,12 @@ pub long-back : (k : ℕ) (xs ys : List ℕ) → k ≤ length xs → length ys �
 long-back k xs ys h l = same-len-mid 0 (k - 0) xs ys (l ∙ sym (mid-len 0 k xs h))
 
 -- the assignment list is written over what phase one left of it
-pub assigned-is : (n w m from : ℕ) (s assigns ys after : List ℕ) → 8 * m ≤ length assigns → length ys ≡ 8 * m - 0
-    → after ≡ assignmentList n w from (circuitsIn m s) (putMid 0 (8 * m - 0) assigns ys) → after ≡ assignmentList n w from (circuitsIn m s) assigns
+pub assigned-is : (m from : ℕ) (s : List ℕ) (gs : List Assignment) (assigns ys after : List ℕ) → 8 * m ≤ length assigns → length ys ≡ 8 * m - 0
+    → after ≡ assignmentList from (circuitsIn m s) gs (putMid 0 (8 * m - 0) assigns ys) → after ≡ assignmentList from (circuitsIn m s) gs assigns
 unfolding assignmentList
-assigned-is n w m from s assigns ys after h l e =
+assigned-is m from s gs assigns ys after h l e =
     let cs : List Circuit = circuitsIn m s in
-    e ∙ ap (λ (t : List ℕ). assignmentRecords from cs (assignments n w cs) ++ t) (rest-kept (8 * m) (8 * length cs) assigns ys (omega (arith, length-circuitsIn m s)) h l)
+    e ∙ ap (λ (t : List ℕ). assignmentRecords from cs gs ++ t) (rest-kept (8 * m) (8 * length cs) assigns ys (omega (arith, length-circuitsIn m s)) h l)
 
 -- the first k bytes were lent twice, and then zeroed: they are zero, and the rest is as it was
 pub cleared-is : (k : ℕ) (work ys zs after : List ℕ) → k ≤ length work → length ys ≡ k - 0 → length zs ≡ length (midOf 0 (k - 0) (putMid 0 (k - 0) work ys))

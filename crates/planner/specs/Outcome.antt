@@ -2,50 +2,58 @@
 -- Assumes nothing.
 use Prim.Native.Nat.{ℕ, _+_, _*_, _/_}
 use mathlib.Core.Path.{_≡_}
-use mathlib.Core.List.{List, _++_}
-use lib.ListN.{length, drop, replicate}
-use Rattle.records.specs.Records.{circuitsIn, circuitsOf}
-use Rattle.refusals.specs.Table.{verdict, planTable}
-use Rattle.refusals.specs.declared.Test.{Test}
-use Rattle.refusals.specs.declared.Test.the-variants.{Checked, Refused as Failed}
-use Rattle.strands.specs.declared.Counts.{Counts}
-use Rattle.strands.specs.Laid.{countsOf, fibreList, assignmentList}
+use mathlib.Core.List.{List}
+use mathlib.Core.Option.{Option, none, some}
+use lib.ListN.{length}
+use Rattle.records.specs.Records.{circuitsOf}
+use Rattle.records.specs.declared.Line.{Line}
+use Rattle.method.specs.Line.{Plan}
+use Rattle.method.specs.Fibres.{floor, plan}
+use Rattle.refusals.specs.Refusals.{Refusal, refusalIn, ifRefused}
+use Rattle.refusals.specs.Table.{Row, verdict, planTable}
+use Rattle.refusals.specs.declared.Verdict.{Verdict}
+use Rattle.register.specs.Areas.{Areas, zeroedTo}
+use Rattle.register.specs.Lists.{countsOf, fibreList, assignmentList}
+use Rattle.register.specs.declared.Counts.{Counts}
 use Rattle.planner.specs.declared.Answer.{Answer}
 use Rattle.planner.specs.declared.Answer.the-variants.{Planned, Refused}
 
--- the refusal of a test that failed; of one that passed it is never asked
-abbrev pub refusalOf : Test → Answer
-refusalOf (Checked x) = Refused 0 0
-refusalOf (Failed number place) = Refused number place
+-- what an answer refuses: one definition takes each of its cases to a refusal, or none
+abbrev pub refusalOf : Answer → Option Refusal
+refusalOf (Planned counts) = none
+refusalOf (Refused number place) = some (record { number = number; place = place })
 
--- a work area of which the first k bytes are zeroed
-unfoldable pub zeroedTo : ℕ → List ℕ → List ℕ
-zeroedTo k work = replicate k 0 ++ drop k work
+-- the answer that refuses so
+abbrev pub refusedAs : Refusal → Answer
+refusedAs r = Refused (r .number) (r .place)
 
--- m circuits that passed the tests are planned: the three numbers, the two lists and the work area
-pub record Settled (n w m from : ℕ) (s fibres₀ assigns₀ work₀ fibres₁ assigns₁ work₁ : List ℕ) (counts : Counts) : Type 0 where
-  pub counted : counts ≡ countsOf n w (circuitsIn m s)
-  pub listed : fibres₁ ≡ fibreList n w from (circuitsIn m s) fibres₀
-  pub assigned : assigns₁ ≡ assignmentList n w from (circuitsIn m s) assigns₀
-  pub cleared : work₁ ≡ zeroedTo (4 * n + 4 * m) work₀
+-- the table of refusals for a line, circuit bytes s and lent areas
+abbrev pub tableFor : Line → List ℕ → Areas → List Row
+tableFor line s lent = planTable line s (length (lent .fibres)) (length (lent .assigns)) (length (lent .work))
 
 -- the verdict of the tests: the first refusal that applies, or else how many circuits there are
-unfoldable pub judged : ℕ → ℕ → List ℕ → List ℕ → List ℕ → List ℕ → Test
-judged n w s fibres assigns work = verdict (planTable n w s (length fibres) (length assigns) (length work)) (length s / 8)
+unfoldable pub judged : Line → List ℕ → Areas → Verdict
+judged line s lent = verdict (tableFor line s lent) (length s / 8)
 
--- planned, with the three numbers, or refused, with the number and place of the table
-abbrev pub answerBy : Test → Counts → Answer
-answerBy (Checked m) counts = Planned counts
-answerBy (Failed number place) counts = Refused number place
+-- the method's plan of a file of circuits on a line
+abbrev pub planOf : Line → List ℕ → Plan
+planOf line s = plan (line .links) (line .wavelengths) (circuitsOf s)
+
+-- its three numbers
+abbrev pub numbersOf : Line → List ℕ → Counts
+numbersOf line s = countsOf (planOf line s) (floor (line .links) (line .wavelengths) (circuitsOf s))
+
+-- planned, with the three numbers, or refused, as the table says
+abbrev pub answerBy : Verdict → Counts → Answer
+answerBy v counts = ifRefused (refusalIn v) refusedAs (Planned counts)
 
 -- a lent area is changed only where the circuits were accepted
-abbrev pub ifAccepted : Test → List ℕ → List ℕ → List ℕ
-ifAccepted (Checked m) after before = after
-ifAccepted (Failed number place) after before = before
+abbrev pub ifAccepted : Verdict → List ℕ → List ℕ → List ℕ
+ifAccepted v after before = ifRefused (refusalIn v) (λ r. before) after
 
 -- the answer and every byte of the three lent areas
-pub record Outcome (n w : ℕ) (s fibres₀ assigns₀ work₀ fibres₁ assigns₁ work₁ : List ℕ) (answer : Answer) : Type 0 where
-  pub answered : answer ≡ answerBy (judged n w s fibres₀ assigns₀ work₀) (countsOf n w (circuitsOf s))
-  pub listed : fibres₁ ≡ ifAccepted (judged n w s fibres₀ assigns₀ work₀) (fibreList n w 0 (circuitsOf s) fibres₀) fibres₀
-  pub assigned : assigns₁ ≡ ifAccepted (judged n w s fibres₀ assigns₀ work₀) (assignmentList n w 0 (circuitsOf s) assigns₀) assigns₀
-  pub cleared : work₁ ≡ ifAccepted (judged n w s fibres₀ assigns₀ work₀) (zeroedTo (4 * n + 4 * (length s / 8)) work₀) work₀
+pub record Outcome (line : Line) (s : List ℕ) (before after : Areas) (answer : Answer) : Type 0 where
+  pub answered : answer ≡ answerBy (judged line s before) (numbersOf line s)
+  pub listed : after .fibres ≡ ifAccepted (judged line s before) (fibreList 0 ((planOf line s) .fibres) (before .fibres)) (before .fibres)
+  pub assigned : after .assigns ≡ ifAccepted (judged line s before) (assignmentList 0 (circuitsOf s) ((planOf line s) .assignments) (before .assigns)) (before .assigns)
+  pub cleared : after .work ≡ ifAccepted (judged line s before) (zeroedTo (4 * line .links + 4 * (length s / 8)) (before .work)) (before .work)

@@ -12,18 +12,7 @@ use borrow.Author.Tests.{eq-eqb, ne-eqb}
 use Rattle.basics.specs.Tools.{count}
 use Rattle.basics.proofs.Bools.{by-eq, clash}
 use Rattle.basics.proofs.Counts.{count-below, count-nth, count-rank}
-use Rattle.queue.specs.Queued.{waitsIn, ClosedUp}
-
--- the three cells of place x of C are those of place y of L
-abbrev pub Alike : ℕ → List ℕ → ℕ → List ℕ → ℕ → Type 0
-Alike m C x L y = (getD C x 0 ≡ getD L y 0) × (getD C (m + x) 0 ≡ getD L (m + y) 0) × (getD C (2 * m + x) 0 ≡ getD L (2 * m + y) 0)
-
--- places before p are closed up, r of them wait; places from p on are as they were
-pub record Closing (m : ℕ) (L C : List ℕ) (p r : ℕ) : Type 0 where
-  pub long : length C ≡ 4 * m
-  pub rank : r ≡ count (waitsIn L) p
-  pub moved : (x : ℕ) → x < p → getD L x 0 ≢ 0 → Alike m C (count (waitsIn L) x) L x
-  pub ahead : (x : ℕ) → p ≤ x → x < m → Alike m C x L x
+use Rattle.queue.specs.inner.ClosedUp.{waitsIn, Alike, Closing, ClosedUp}
 
 -- a first link that is not 0 waits
 pub waiting : (L : List ℕ) (p : ℕ) → getD L p 0 ≢ 0 → waitsIn L p ≡ true

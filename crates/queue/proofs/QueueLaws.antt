@@ -20,7 +20,7 @@ use Rattle.method.specs.Line.{circuit, Distinct}
 use Rattle.scans.specs.Scans.{within, cellWithin, bothWithin}
 use Rattle.scans.specs.declared.Bounds.{Bounds}
 use Rattle.queue.specs.declared.Queue.{Queue}
-use Rattle.queue.specs.Queued.{placeIn, Queued}
+use Rattle.queue.specs.Queued.{placeIn, Queued, firstPlace}
 
 -- whether circuit j waits and has ends that pass f
 abbrev passing : List Circuit → List ℕ → (ℕ → ℕ → Bool) → ℕ → Bool
@@ -62,14 +62,14 @@ at-place m cs R L q f x Q out h t =
     clash (passingIn m L f x) t (ap (λ (v : ℕ). f v (getD L (m + x) 0)) z ∙ out (getD L (m + x) 0)))
 
 -- no place before the first that passes does
-not-before : (m : ℕ) (L : List ℕ) (q : Queue) (f : ℕ → ℕ → Bool) (p x : ℕ) → p ≡ seek (λ x. f (getD L x 0) (getD L (m + x) 0)) (q .from) (q .to - q .from)
+not-before : (m : ℕ) (L : List ℕ) (q : Queue) (f : ℕ → ℕ → Bool) (p x : ℕ) → p ≡ firstPlace q (λ x. f (getD L x 0) (getD L (m + x) 0))
     → q .from ≤ x → passingIn m L f x ≡ true → p ≤ x
 not-before m L q f p x e h t =
     by-le p x (λ l. l) (λ l. clash (passingIn m L f x) t (seek-miss (passingIn m L f) (q .from) (q .to - q .from) x h (omega arith)))
 
 -- the circuit at the first place that passes waits and passes
 first-passes : (m : ℕ) (cs : List Circuit) (R L : List ℕ) (q : Queue) (f : ℕ → ℕ → Bool) (p : ℕ) → Queued m cs R L q → ((b : ℕ) → f 0 b ≡ false)
-    → p ≡ seek (λ x. f (getD L x 0) (getD L (m + x) 0)) (q .from) (q .to - q .from) → p < q .to → passing cs R f (placeIn m L p) ≡ true
+    → p ≡ firstPlace q (λ x. f (getD L x 0) (getD L (m + x) 0)) → p < q .to → passing cs R f (placeIn m L p) ≡ true
 first-passes m cs R L q f p Q out e h =
     let z = Q .ends .0 in
     let t : passingIn m L f p ≡ true = ap (passingIn m L f) e ∙ seek-hit (passingIn m L f) (q .from) (q .to - q .from) (omega arith) in
@@ -87,7 +87,7 @@ fit-is m from to a b L h k =
 -- the first place that fits is the lowest of the waiting circuits that fit
 pub chosen-is : (m : ℕ) (cs : List Circuit) (R L : List ℕ) (q : Queue) (f : ℕ → ℕ → Bool) (p : ℕ)
     → length cs ≡ m → Distinct cs → Queued m cs R L q → ((b : ℕ) → f 0 b ≡ false)
-    → p ≡ seek (λ x. f (getD L x 0) (getD L (m + x) 0)) (q .from) (q .to - q .from) → p < q .to
+    → p ≡ firstPlace q (λ x. f (getD L x 0) (getD L (m + x) 0)) → p < q .to
     → lowest (λ j. eqb (getD R j 0) 0 && f ((circuit cs j) .first) ((circuit cs j) .last)) (λ j. (circuit cs j) .number) m ≡ some (placeIn m L p)
 chosen-is m cs R L q f p l d Q out e h = go (lowest (passing cs R f) (numbers cs) m) refl
   where
@@ -106,7 +106,7 @@ chosen-is m cs R L q f p l d Q out e h = go (lowest (passing cs R f) (numbers cs
 
 -- where no place fits, no waiting circuit does
 pub chosen-none : (m : ℕ) (cs : List Circuit) (R L : List ℕ) (q : Queue) (f : ℕ → ℕ → Bool) (p : ℕ)
-    → Queued m cs R L q → p ≡ seek (λ x. f (getD L x 0) (getD L (m + x) 0)) (q .from) (q .to - q .from) → q .to ≤ p
+    → Queued m cs R L q → p ≡ firstPlace q (λ x. f (getD L x 0) (getD L (m + x) 0)) → q .to ≤ p
     → lowest (λ j. eqb (getD R j 0) 0 && f ((circuit cs j) .first) ((circuit cs j) .last)) (λ j. (circuit cs j) .number) m ≡ none
 chosen-none m cs R L q f p Q e h = go (lowest (passing cs R f) (numbers cs) m) refl
   where
@@ -121,7 +121,7 @@ chosen-none m cs R L q f p Q e h = go (lowest (passing cs R f) (numbers cs) m) r
 -- and the circuit at that place waits
 pub chosen-waits : (m : ℕ) (cs : List Circuit) (R L : List ℕ) (q : Queue) (f : ℕ → ℕ → Bool) (p : ℕ)
     → Queued m cs R L q → ((b : ℕ) → f 0 b ≡ false)
-    → p ≡ seek (λ x. f (getD L x 0) (getD L (m + x) 0)) (q .from) (q .to - q .from) → p < q .to
+    → p ≡ firstPlace q (λ x. f (getD L x 0) (getD L (m + x) 0)) → p < q .to
     → (placeIn m L p < m) × (getD R (placeIn m L p) 0 ≡ 0)
 chosen-waits m cs R L q f p Q out e h =
     (Q .places p h, eqb-true (getD R (placeIn m L p) 0) 0 (and-l _ _ (first-passes m cs R L q f p Q out e h)))

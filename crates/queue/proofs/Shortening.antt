@@ -15,10 +15,10 @@ use Rattle.basics.proofs.Tables.{getD-part}
 use Rattle.records.specs.declared.Circuit.{Circuit}
 use Rattle.method.specs.Line.{circuit}
 use Rattle.scans.specs.Scans.{within, cellWithin}
-use Rattle.scans.specs.declared.Bounds.{Bounds}
 use Rattle.queue.specs.declared.Queue.{Queue}
-use Rattle.queue.specs.Queued.{placeIn, Queued, waitsIn, ClosedUp}
-use Rattle.queue.proofs.Closing.{Alike, waiting, from-place}
+use Rattle.queue.specs.Queued.{placeIn, Queued}
+use Rattle.queue.specs.inner.ClosedUp.{waitsIn, Alike, ClosedUp, anyLink}
+use Rattle.queue.proofs.Closing.{waiting, from-place}
 use Rattle.queue.proofs.QueueLaws.{first-waiting}
 
 -- the place in the file of a circuit that has moved
@@ -87,10 +87,6 @@ later-keeps m f cs R L q l none-waits up Q =
           (s .0, by-le f (s .0) (λ i. i) (λ i. absurd (omega (arith, none-waits (s .0) (s .1) i))), s .2, s .3);
       few = Q .few;
     }
-
--- the bounds of the first links of those that wait
-abbrev pub anyLink : Bounds
-anyLink = record { low = 1; high = 65535 }
 
 -- before the first cell that is a link, no place waits
 pub none-before : (m from to f : ℕ) (L : List ℕ) → from ≤ to → to ≤ m → ((k : ℕ) → getD L k 0 < 65536) → f ≡ seek (cellWithin anyLink (part 0 m L)) from (to - from)

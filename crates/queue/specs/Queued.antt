@@ -1,13 +1,12 @@
--- The circuits that wait, by rising number. What a reader must believe.
+-- The circuits that wait, by rising number. A contract between crates.
 -- Assumes nothing.
-use Prim.Native.Nat.{ℕ, _+_, _*_, _≤_, _<_}
-use mathlib.Core.Bool.{Bool, not, cond}
+use Prim.Native.Nat.{ℕ, _+_, _-_, _*_, _≤_, _<_}
+use mathlib.Core.Bool.{Bool, cond}
 use mathlib.Core.Path.{_≡_}
-use mathlib.Core.Logic.{_≢_}
 use mathlib.Core.List.{List}
-use lib.ListN.{getD}
+use lib.ListN.{length, getD}
 use lib.Dec.{eqb}
-use Rattle.basics.specs.Tools.{count}
+use Rattle.basics.specs.Tools.{count, seek}
 use Rattle.records.specs.declared.Circuit.{Circuit}
 use Rattle.method.specs.Line.{circuit}
 use Rattle.queue.specs.declared.Queue.{Queue}
@@ -31,12 +30,14 @@ pub record Queued (m : ℕ) (cs : List Circuit) (R L : List ℕ) (q : Queue) : T
   -- and at most `many` wait
   pub few : (count (λ j. eqb (getD R j 0) 0) m ≤ q .many) × (q .many ≤ m)
 
--- whether the circuit at place p of the list waits
-unfoldable pub waitsIn : List ℕ → ℕ → Bool
-waitsIn L p = not (eqb (getD L p 0) 0)
+-- the ends of a queue in a list of 4 m cells
+abbrev pub InList : ℕ → List ℕ → Queue → Type 0
+InList m list q = (m ≤ 2048) × (length list ≡ 8 * m) × (q .from ≤ q .to) × (q .to ≤ m)
 
--- each that waits has moved to the place that is the number of those that wait before it, with its three cells; r wait in all
-pub record ClosedUp (m to : ℕ) (L L' : List ℕ) (r : ℕ) : Type 0 where
-  pub many : r ≡ count (waitsIn L) to
-  pub moved : (p : ℕ) → p < to → getD L p 0 ≢ 0
-      → (getD L' (count (waitsIn L) p) 0 ≡ getD L p 0) × (getD L' (m + count (waitsIn L) p) 0 ≡ getD L (m + p) 0) × (getD L' (2 * m + count (waitsIn L) p) 0 ≡ getD L (2 * m + p) 0)
+-- the first place of a queue that passes a test, or the queue's end
+abbrev pub firstPlace : Queue → (ℕ → Bool) → ℕ
+firstPlace q passes = seek passes (q .from) (q .to - q .from)
+
+-- whatever circuits L with q is a queue of, L' with r is one of them too, if each has a first link
+abbrev pub StaysQueued : ℕ → List ℕ → List ℕ → Queue → Queue → Type 0
+StaysQueued m L L' q r = (cs : List Circuit) (R : List ℕ) → ((j : ℕ) → j < m → 1 ≤ (circuit cs j) .first) → Queued m cs R L q → Queued m cs R L' r

@@ -2,16 +2,14 @@
 // A circuit that is taken out has first link 0, and so fits no run.
 use scans::Bounds;
 ghost use mathlib.Core.Path.{_≡_};
-ghost use mathlib.Core.List.{List};
-ghost use Prim.Native.Nat.{ℕ, _-_, _*_, _≤_, _<_};
+ghost use Prim.Native.Nat.{_*_, _≤_};
 ghost use lib.ListN.{length, replicate};
-ghost use Rattle.basics.specs.Tools.{part, seek};
+ghost use Rattle.basics.specs.Tools.{part};
 ghost use Rattle.records.specs.Bytes.{cellsOf};
 ghost use Rattle.records.specs.Records.{circuitsIn};
-ghost use Rattle.records.specs.declared.Circuit.{Circuit};
-ghost use Rattle.method.specs.Line.{circuit};
 ghost use Rattle.scans.specs.Scans.{bothWithin};
-ghost use Rattle.queue.specs.Queued.{Queued, ClosedUp};
+ghost use Rattle.queue.specs.Queued.{Queued, InList, firstPlace, StaysQueued};
+ghost use Rattle.queue.specs.inner.ClosedUp.{ClosedUp};
 
 // The part of the list where circuits wait, from place `from` to before place `to`; at most `many` do.
 pub struct Queue {
@@ -34,13 +32,13 @@ pub fn line_up(circuits: &[u8], m: usize, list: &mut [u8]) -> Queue
 }
 
 // The first place of the queue whose first link lies within a and whose last link lies within b, or `to`.
-pub fn first_fit(m: usize, list: &[u8], q: Queue, a: Bounds, b: Bounds) -> usize
-    requires { ⌜ (m ≤ 2048) × (length (now list) ≡ 8 * m) × (q .from ≤ q .to) × (q .to ≤ m) × (a .low ≤ a .high) × (b .low ≤ b .high) ⌝ }
-    ensures { λ r. ⌜ r ≡ seek (bothWithin a b (part 0 m (cellsOf (now (list .entry)))) (part m m (cellsOf (now (list .entry))))) (q .from) (q .to - q .from) ⌝ }
+pub fn first_waiting(m: usize, list: &[u8], q: Queue, a: Bounds, b: Bounds) -> usize
+    requires { ⌜ InList m (now list) q × (a .low ≤ a .high) × (b .low ≤ b .high) ⌝ }
+    ensures { λ r. ⌜ r ≡ firstPlace q (bothWithin a b (part 0 m (cellsOf (now (list .entry)))) (part m m (cellsOf (now (list .entry))))) ⌝ }
 {
     let e = 2 * m;
     let f = 4 * m;
-    scans::first_fit(&list[0..e], &list[e..f], q.from, q.to, a, b)
+    scans::first_within_both(&list[0..e], &list[e..f], q.from, q.to, a, b)
 }
 
 // The circuits that wait close up, in their order. What is told: how many they are.
@@ -67,8 +65,8 @@ fn close_up(m: usize, list: &mut [u8], to: usize) -> usize
 
 // The queue, shortened: closed up once half of it is out, else begun at the first that waits. Those that wait stay in it; how short it gets is not promised.
 pub fn shorten(m: usize, list: &mut [u8], q: Queue) -> Queue
-    requires { ⌜ (m ≤ 2048) × (length (now list) ≡ 8 * m) × (q .from ≤ q .to) × (q .to ≤ m) × (q .many ≤ m) ⌝ }
-    ensures { λ r. ⌜ (length (now (list .exit)) ≡ 8 * m) × ((cs : List Circuit) (R : List ℕ) → ((j : ℕ) → j < m → 1 ≤ (circuit cs j) .first) → Queued m cs R (cellsOf (now (list .entry))) q → Queued m cs R (cellsOf (now (list .exit))) r) ⌝ }
+    requires { ⌜ InList m (now list) q × (q .many ≤ m) ⌝ }
+    ensures { λ r. ⌜ (length (now (list .exit)) ≡ 8 * m) × StaysQueued m (cellsOf (now (list .entry))) (cellsOf (now (list .exit))) q r ⌝ }
 {
     if 2 * q.many <= q.to {
         let to = close_up(m, list, q.to);

@@ -6,6 +6,8 @@ use native.Mathlib.Nat.{mod-add-div}
 use native.Mathlib.Omega.{arith}
 use lib.ListN.{length, getD}
 use Rattle.records.specs.Bytes.{le16, le32, bytes16, bytes32, cellsOf, encode}
+use Rattle.records.specs.LineFiles.{lineBytes, lineIn}
+use Rattle.records.specs.declared.LineFile.the-variants.{Says}
 use Rattle.records.specs.Records.{circuitOf, fibreOf, assignmentOf, circuitBytes, fibreBytes, assignmentBytes}
 use Rattle.records.specs.declared.Circuit.{Circuit}
 use Rattle.records.specs.declared.FibreRecord.{FibreRecord}
@@ -16,6 +18,11 @@ use Rattle.records.proofs.Parts.{written-out}
 -- the two bytes of a number are read as that number
 pub le16-bytes16 : (v : ℕ) → le16 (bytes16 v) 0 ≡ v
 le16-bytes16 v = mod-add-div v 256
+
+-- the bytes of a line's file say that line
+pub line-read-written : (n w : ℕ) → lineIn (lineBytes n w) ≡ Says (record { links = n; wavelengths = w })
+unfolding lineIn lineBytes
+line-read-written n w = λ i. Says (record { links = le16-bytes16 n i; wavelengths = le16-bytes16 w i })
 
 -- the four bytes of a number are read as that number
 pub le32-bytes32 : (v : ℕ) → le32 (bytes32 v) 0 ≡ v

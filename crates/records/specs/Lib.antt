@@ -1,3 +1,4 @@
 pub mod Bytes
 pub mod Records
+pub mod LineFiles
 pub mod Area

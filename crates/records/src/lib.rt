@@ -4,10 +4,23 @@ ghost use mathlib.Core.List.{[], _∷_};
 ghost use Prim.Native.Nat.{_+_, _*_, _≤_};
 ghost use lib.ListN.{length};
 ghost use Rattle.records.specs.Bytes.{encode};
+ghost use Rattle.records.specs.LineFiles.{lineIn};
 ghost use Rattle.records.specs.Records.{recordAt, circuitOf, fibreOf, assignmentOf, circuitBytes, fibreBytes, assignmentBytes, putRecord};
 
 pub mod cells;
 pub mod numbers;
+
+// A line: how many links, and how many wavelengths a fibre carries.
+pub struct Line {
+    pub links: usize,
+    pub wavelengths: usize,
+}
+
+// What the bytes of a line's file say: a line, or none.
+pub enum LineFile {
+    Says(Line),
+    Unclear,
+}
 
 // A circuit, as its record holds it.
 pub struct Circuit {
@@ -29,6 +42,19 @@ pub struct AssignmentRecord {
     pub circuit: u32,
     pub fibre: u16,
     pub wavelength: u16,
+}
+
+// The line that the bytes of `line.rec` say.
+pub fn line_in(bytes: &[u8]) -> LineFile
+    ensures { λ r. ⌜ r ≡ lineIn (now (bytes .entry)) ⌝ }
+{
+    if bytes.len() != 4 {
+        return LineFile::Unclear;
+    }
+    LineFile::Says(Line {
+        links: numbers::index(numbers::read16(bytes, 0)),
+        wavelengths: numbers::index(numbers::read16(bytes, 2)),
+    })
 }
 
 // The circuit that an 8-byte part holds.

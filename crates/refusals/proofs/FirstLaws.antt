@@ -11,8 +11,8 @@ use Rattle.basics.proofs.Bools.{by-eq, by-le}
 use Rattle.basics.proofs.Searches.{any-false, seek-first, seek-none}
 use Rattle.records.specs.Records.{recordAt, circuitOf, numberIn}
 use Rattle.records.specs.declared.Circuit.{Circuit}
-use Rattle.refusals.specs.declared.Test.the-variants.{Checked, Refused}
-use Rattle.refusals.specs.Table.{firstRecord, refusedOr}
+use Rattle.refusals.specs.declared.Verdict.the-variants.{Checked, Refused}
+use Rattle.refusals.specs.Table.{firstRecord, tested, wherever}
 
 -- the number of a record that was read
 pub number-is : (s : List ℕ) (j : ℕ) (r : Circuit) → r ≡ circuitOf (recordAt s j) → r .number ≡ numberIn s j
@@ -46,11 +46,11 @@ module _ (p : ℕ → Bool) where
 
   -- the refusal of record j is what the test answers, if it is the first that passes
   pub refused-at : (number m x j : ℕ) → j < m → p j ≡ true → ((i : ℕ) → i < j → p i ≡ false)
-      → Refused number (j + 1) ≡ refusedOr (firstRecord p m) number (Checked x)
+      → Refused number (j + 1) ≡ tested (wherever number (firstRecord p m)) x
   refused-at number m x j h t before =
-      ap (Refused number) (omega arith) ∙ sym (ap (λ (o : Option ℕ). refusedOr o number (Checked x)) (first-hit m j h t before))
+      ap (Refused number) (omega arith) ∙ sym (ap (λ (o : Option ℕ). tested (wherever number o) x) (first-hit m j h t before))
 
   -- a test in which no record passes answers what it found
-  pub checked-all : (number m x j : ℕ) → m ≤ j → ((i : ℕ) → i < j → p i ≡ false) → Checked x ≡ refusedOr (firstRecord p m) number (Checked x)
+  pub checked-all : (number m x j : ℕ) → m ≤ j → ((i : ℕ) → i < j → p i ≡ false) → Checked x ≡ tested (wherever number (firstRecord p m)) x
   checked-all number m x j h before =
-      sym (ap (λ (o : Option ℕ). refusedOr o number (Checked x)) (first-end m (λ i l. before i (omega arith))))
+      sym (ap (λ (o : Option ℕ). tested (wherever number o) x) (first-end m (λ i l. before i (omega arith))))

@@ -1,4 +1,6 @@
 pub mod FirstLaws
 pub mod First
 pub mod Passed
+pub mod Chain
+pub mod Pieces
 pub mod Cases

@@ -1,2 +1,3 @@
+pub mod Refusals
 pub mod Table
 pub mod Given

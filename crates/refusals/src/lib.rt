@@ -1,4 +1,4 @@
-// The tests, one function each: what is refused, with which number and place.
+// The tests, one function each: what is refused, with which number and place; and the chains of them that operations share.
 ghost use mathlib.Core.Path.{_≡_};
 ghost use Prim.Native.Nat.{_+_, _*_, _/_, _≤_};
 ghost use mathlib.Core.Bool.{not, _&&_};
@@ -7,81 +7,83 @@ ghost use lib.Dec.{leb, ltb};
 ghost use Rattle.basics.specs.Tools.{any};
 ghost use Rattle.refusals.specs.Table.{whenever, badEnds, hasNumber, tested, row1, row2, row3, row4, row5, row6, row7, row8, row9, row10};
 
-// What a test answers: passed, with a number that it found, or refused, with number and place.
-pub enum Test {
+pub mod admit;
+
+// What a test answers, or a chain of tests: passed, with a number that it found, or refused, with number and place.
+pub enum Verdict {
     Checked(usize),
     Refused { number: u32, place: u32 },
 }
 
 // 1: whole records. What is found: how many.
-pub fn whole(circuits: &[u8]) -> Test
+pub fn whole(circuits: &[u8]) -> Verdict
     ensures { λ r. ⌜ r ≡ tested (row1 (now (circuits .entry))) (length (now (circuits .entry)) / 8) ⌝ }
 {
     let l = circuits.len();
     if l % 8 != 0 {
-        return Test::Refused {
+        return Verdict::Refused {
             number: 1,
             place: 0,
         };
     }
-    Test::Checked(l / 8)
+    Verdict::Checked(l / 8)
 }
 
 // 2: not more than 2,048 circuits.
-pub fn few(m: usize) -> Test
+pub fn few(m: usize) -> Verdict
     ensures { λ r. ⌜ r ≡ tested (row2 m) m ⌝ }
 {
     if 2048 < m {
-        return Test::Refused {
+        return Verdict::Refused {
             number: 2,
             place: 0,
         };
     }
-    Test::Checked(m)
+    Verdict::Checked(m)
 }
 
 // A number that is not 1 to the limit is refused.
-fn within(number: u32, x: usize, limit: usize) -> Test
-    ensures { λ r. ⌜ r ≡ tested (record { number = number; place = whenever (not (leb 1 x && leb x limit)) }) x ⌝ }
+fn within(number: u32, x: usize, limit: usize) -> Verdict
+    ensures { λ r. ⌜ r ≡ tested (whenever number (not (leb 1 x && leb x limit))) x ⌝ }
 {
     if x < 1 {
-        return Test::Refused { number, place: 0 };
+        return Verdict::Refused { number, place: 0 };
     }
     if limit < x {
-        return Test::Refused { number, place: 0 };
+        return Verdict::Refused { number, place: 0 };
     }
-    Test::Checked(x)
+    Verdict::Checked(x)
 }
 
 // 3: a line of 1 to `limit` links.
-pub fn line(n: usize, limit: usize) -> Test
+pub fn line(n: usize, limit: usize) -> Verdict
     ensures { λ r. ⌜ r ≡ tested (row3 limit n) n ⌝ }
 {
     within(3, n, limit)
 }
 
 // 4: 1 to `limit` wavelengths.
-pub fn waves(w: usize, limit: usize) -> Test
+pub fn waves(w: usize, limit: usize) -> Verdict
     ensures { λ r. ⌜ r ≡ tested (row4 limit w) w ⌝ }
 {
     within(4, w, limit)
 }
 
 // 5: no circuit number is 0.
-pub fn numbered(circuits: &[u8], m: usize) -> Test
+pub fn numbered(circuits: &[u8], m: usize) -> Verdict
     requires { ⌜ (8 * m ≤ length (now circuits)) × (m ≤ 2048) ⌝ }
     ensures { λ r. ⌜ r ≡ tested (row5 (now (circuits .entry)) m) m ⌝ }
 {
     for j in 0..m {
         let c = records::circuit_at(circuits, j);
         if c.number == 0 {
-            return Test::Refused {
+            return Verdict::Refused {
                 number: 5,
                 place: (j + 1) as u32,
             };
         }
     }
-    Test::Checked(m)
+    Verdict::Checked(m)
 }
 
 // Whether a circuit does not lie on a line of n links.
@@ -98,20 +100,20 @@ fn bad_ends(c: records::Circuit, n: usize) -> bool
 }
 
 // 6: every circuit lies on the line of n links.
-pub fn on_line(circuits: &[u8], m: usize, n: usize) -> Test
+pub fn on_line(circuits: &[u8], m: usize, n: usize) -> Verdict
     requires { ⌜ (8 * m ≤ length (now circuits)) × (m ≤ 2048) ⌝ }
     ensures { λ r. ⌜ r ≡ tested (row6 n (now (circuits .entry)) m) m ⌝ }
 {
     for j in 0..m {
         let c = records::circuit_at(circuits, j);
         if bad_ends(c, n) {
-            return Test::Refused {
+            return Verdict::Refused {
                 number: 6,
                 place: (j + 1) as u32,
             };
         }
     }
-    Test::Checked(m)
+    Verdict::Checked(m)
 }
 
 // Whether one of the 32 records from record i on has the number x. No exit inside the loop, so that several are compared at once.
@@ -132,7 +134,7 @@ fn like_of_32(circuits: &[u8], i: usize, x: u32) -> bool
 }
 
 // 7: no circuit number stands twice. Each record beside those before it, until one repeats.
-pub fn unlike(circuits: &[u8], m: usize) -> Test
+pub fn unlike(circuits: &[u8], m: usize) -> Verdict
     requires { ⌜ (8 * m ≤ length (now circuits)) × (m ≤ 2048) ⌝ }
     ensures { λ r. ⌜ r ≡ tested (row7 (now (circuits .entry)) m) m ⌝ }
 {
@@ -164,26 +166,26 @@ pub fn unlike(circuits: &[u8], m: usize) -> Test
         }
     }
     if place == 0 {
-        return Test::Checked(m);
+        return Verdict::Checked(m);
     }
-    Test::Refused {
+    Verdict::Refused {
         number: 7,
         place: place as u32,
     }
 }
 
 // A lent area that is too short is refused.
-fn room(number: u32, needed: usize, has: usize) -> Test
-    ensures { λ r. ⌜ r ≡ tested (record { number = number; place = whenever (ltb has needed) }) has ⌝ }
+fn room(number: u32, needed: usize, has: usize) -> Verdict
+    ensures { λ r. ⌜ r ≡ tested (whenever number (ltb has needed)) has ⌝ }
 {
     if has < needed {
-        return Test::Refused { number, place: 0 };
+        return Verdict::Refused { number, place: 0 };
     }
-    Test::Checked(has)
+    Verdict::Checked(has)
 }
 
 // 8: the fibre list has `each` bytes for each of m circuits.
-pub fn fibre_room(has: usize, m: usize, each: usize) -> Test
+pub fn fibre_room(has: usize, m: usize, each: usize) -> Verdict
     requires { ⌜ (m ≤ 2048) × (each ≤ 16) ⌝ }
     ensures { λ r. ⌜ r ≡ tested (row8 each m has) has ⌝ }
 {
@@ -191,7 +193,7 @@ pub fn fibre_room(has: usize, m: usize, each: usize) -> Test
 }
 
 // 9: the assignment list has 8 bytes for each of m circuits.
-pub fn assignment_room(has: usize, m: usize) -> Test
+pub fn assignment_room(has: usize, m: usize) -> Verdict
     requires { ⌜ m ≤ 2048 ⌝ }
     ensures { λ r. ⌜ r ≡ tested (row9 m has) has ⌝ }
 {
@@ -199,7 +201,7 @@ pub fn assignment_room(has: usize, m: usize) -> Test
 }
 
 // 10: the work area has 4 bytes for each link and each circuit.
-pub fn work_room(has: usize, n: usize, m: usize) -> Test
+pub fn work_room(has: usize, n: usize, m: usize) -> Verdict
     requires { ⌜ (n ≤ 512) × (m ≤ 2048) ⌝ }
     ensures { λ r. ⌜ r ≡ tested (row10 n m has) has ⌝ }
 {

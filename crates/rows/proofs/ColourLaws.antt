@@ -8,12 +8,9 @@ use lib.ListN.{length}
 use borrow.Author.Tests.{lt-ltb, le-ltb, le-leb, lt-leb}
 use Rattle.basics.proofs.Bools.{by-le}
 use Rattle.method.specs.Sheet.{at, paint}
-use Rattle.rows.specs.Colours.{between, painted}
-use Rattle.rows.proofs.Written.{links-are, Written}
-
--- the same last row for each link
-abbrev pub oneRow : ℕ → ℕ → ℕ
-oneRow v x = v
+use Rattle.rows.specs.inner.Colours.{between, painted}
+use Rattle.rows.specs.inner.Loops.{Written, oneRow}
+use Rattle.rows.proofs.Written.{links-are}
 
 -- the loop has painted the links from `start` to before `past`
 pub paint-done : (n start past v i : ℕ) (C₀ C : List ℕ) → length C₀ ≡ n → past ≤ i → i ≤ max start past → Written (oneRow v) start i C₀ C → C ≡ painted n start past v C₀

@@ -24,17 +24,19 @@ use Rattle.records.proofs.PartCells.{cells-mid, cells-put}
 use Rattle.records.proofs.Encode.{cellsOf-zeros}
 use Rattle.rows.specs.Accepted.{Accepted}
 use Rattle.records.specs.Area.{lastsIn, rowsIn}
-use Rattle.rows.specs.Colours.{blueRow}
-use Rattle.rows.specs.Filled.{Filled, Sheeted}
-use Rattle.rows.specs.Loads.{Below}
+use Rattle.rows.specs.inner.Colours.{blueRow}
+use Rattle.rows.specs.Filled.{Filled}
+use Rattle.rows.specs.inner.Sheeted.{Sheeted}
+use Rattle.rows.specs.inner.Loads.{Below, redAt}
+use Rattle.rows.specs.inner.Loops.{Counted}
 use Rattle.rows.proofs.Written.{at-front}
-use Rattle.rows.proofs.RedLaws.{redAt, red-low}
+use Rattle.rows.proofs.RedLaws.{red-low}
 
 -- M × w is small
 pub top-low : (n w m top : ℕ) (s : List ℕ) → Accepted n w m s → top ≡ most n w (circuitsIn m s) → top * w ≤ 2127
 top-low n w m top s p e =
     let v = p .waves in
-    omega (arith, ap (λ (z : ℕ). z * w) e, few-rows n w (circuitsIn m s) (omega arith), length-circuitsIn m s, p .few)
+    omega (arith, ap (λ (z : ℕ). z * w) e, few-rows n w (circuitsIn m s) (omega arith), length-circuitsIn m s, p .file .few)
 
 -- the first three parts of a list that is put together of four
 parts : (n m : ℕ) (N R M S C : List ℕ) → length N ≡ n → length R ≡ n → length M ≡ m → C ≡ N ++ (R ++ (M ++ S)) → (take n C ≡ N) × (lastsIn n C ≡ R) × (rowsIn n m C ≡ M)
@@ -57,11 +59,6 @@ pub part-zero : (n m : ℕ) (b : List ℕ) → cellsOf b ≡ replicate n 0 ++ (r
 part-zero n m b e =
     let L : 2 * n - 0 ≡ 2 * n = omega arith in
     cells-mid 0 (2 * n - 0) 0 n b refl L ∙ ap (take n) e ∙ take-at (replicate n 0) _ n (length-replicate n 0)
-
--- when that part is back: the c(i), and zeros
-pub record Counted (n m w : ℕ) (cs : List Circuit) (b : List ℕ) : Type 0 where
-  pub long : length b ≡ 4 * n + 4 * m
-  pub cells : cellsOf b ≡ each (need w cs) 1 n ++ (replicate n 0 ++ (replicate m 0 ++ replicate m 0))
 
 -- it is back
 pub counted : (n m w : ℕ) (cs : List Circuit) (b ys b' : List ℕ) → length b ≡ 4 * n + 4 * m → cellsOf b ≡ replicate n 0 ++ (replicate n 0 ++ (replicate m 0 ++ replicate m 0))

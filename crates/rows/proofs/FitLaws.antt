@@ -17,15 +17,15 @@ use Rattle.method.specs.Sheet.{at, blue, runFrom, runPast, inRun, fits, chosen}
 use Rattle.method.proofs.Links.{uses-first, uses-last, uses-of}
 use Rattle.method.proofs.Colours.{from-past, inRun-of, fits-meets, fits-each, fits-of}
 use Rattle.queue.specs.declared.Queue.{Queue}
-use Rattle.queue.specs.Queued.{Queued, placeIn}
+use Rattle.queue.specs.Queued.{Queued, placeIn, firstPlace}
 use Rattle.queue.proofs.QueueLaws.{fit-is, chosen-is, chosen-none, chosen-waits}
 use Rattle.records.specs.declared.Circuit.{Circuit}
 use Rattle.scans.specs.declared.Bounds.{Bounds}
 use Rattle.scans.specs.Scans.{within, bothWithin}
 use Rattle.records.specs.Area.{lastsIn, rowsIn}
-use Rattle.rows.specs.Area.{stateIn}
-use Rattle.rows.specs.Colours.{shown, Around}
-use Rattle.rows.specs.Choice.{fitsRun}
+use Rattle.rows.specs.inner.Area.{stateIn}
+use Rattle.rows.specs.inner.Colours.{shown, Around}
+use Rattle.rows.specs.inner.Choice.{fitsRun, fitsAt}
 use Rattle.rows.specs.declared.colours.Run.{Run}
 use Rattle.method.proofs.Circuits.{OnLine}
 
@@ -118,16 +118,16 @@ within-is run a b x y p q r s f g =
 -- the queue's search is one by the four comparisons
 pub first-is : (m r : ℕ) (L : List ℕ) (q : Queue) (run : Run) (a b : Bounds) → q .from ≤ q .to → q .to ≤ m → a .low ≡ run .low → a .high ≡ run .past - 1 → b .low ≡ run .from → b .high ≡ run .high - 1
     → 1 ≤ run .past → 1 ≤ run .high → r ≡ seek (bothWithin a b (part 0 m L) (part m m L)) (q .from) (q .to - q .from)
-    → r ≡ seek (λ p. fitsRun run (getD L p 0) (getD L (m + p) 0)) (q .from) (q .to - q .from)
+    → r ≡ firstPlace q (fitsAt m run L)
 first-is m r L q run a b h l p₁ p₂ p₃ p₄ f g e =
     e ∙ fit-is m (q .from) (q .to) a b L h l
-    ∙ seek-same (λ x. within a (getD L x 0) && within b (getD L (m + x) 0)) (λ x. fitsRun run (getD L x 0) (getD L (m + x) 0)) (q .from) (q .to - q .from)
+    ∙ seek-same (λ x. within a (getD L x 0) && within b (getD L (m + x) 0)) (fitsAt m run L) (q .from) (q .to - q .from)
     (λ x c d. within-is run a b (getD L x 0) (getD L (m + x) 0) p₁ p₂ p₃ p₄ f g)
 
 -- WHO IS CHOSEN, where the queue's search ends at place p
 module _ (n m k : ℕ) (cs : List Circuit) (C L : List ℕ) (q : Queue) (run : Run) (p : ℕ) (lies : Lies n cs) (distinct : Distinct cs) (long : length cs ≡ m)
     (around : Around n (shown n k (lastsIn n C)) run) (line : run .from ≤ n) (queued : Queued m cs (rowsIn n m C) L q)
-    (found : p ≡ seek (λ x. fitsRun run (getD L x 0) (getD L (m + x) 0)) (q .from) (q .to - q .from)) where
+    (found : p ≡ firstPlace q (fitsAt m run L)) where
   -- the method's choice, by the four comparisons
   by-run : chosen n cs (stateIn n m k C)
       ≡ lowest (λ j. eqb (getD (rowsIn n m C) j 0) 0 && fitsRun run ((circuit cs j) .first) ((circuit cs j) .last)) (λ j. (circuit cs j) .number) m

@@ -12,7 +12,7 @@ use Rattle.basics.proofs.Bools.{on}
 use Rattle.basics.proofs.Searches.{seek-miss, seek-later}
 use Rattle.method.specs.Sheet.{at, red, taken, open', runFrom, paint}
 use Rattle.method.proofs.Colours.{at-paint, from-pos}
-use Rattle.rows.specs.Colours.{blueRow, shownAs, shown, alike, Moved}
+use Rattle.rows.specs.inner.Colours.{blueRow, shownAs, shown, alike, LastsMoved}
 use Rattle.rows.proofs.ShownLaws.{shown-at, shown-opens}
 use Rattle.rows.proofs.PlainLaws.{shown-tone, shown-is}
 
@@ -36,7 +36,7 @@ at-out : (n v : ℕ) (p : ℕ → Bool) (D : List ℕ) (x : ℕ) → 1 ≤ x →
 at-out n v p D x a b t = at-paint n p v D x a b ∙ ap (λ (z : Bool). cond z v (at D x)) t
 
 -- open links may be painted in row k
-pub paint-moved : (n k v : ℕ) (p : ℕ → Bool) (D : List ℕ) → (v ≢ blueRow → v ≤ k) → ((x : ℕ) → 1 ≤ x → x ≤ n → p x ≡ true → at D x < k) → Moved n k D (paint n p v D)
+pub paint-moved : (n k v : ℕ) (p : ℕ → Bool) (D : List ℕ) → (v ≢ blueRow → v ≤ k) → ((x : ℕ) → 1 ≤ x → x ≤ n → p x ≡ true → at D x < k) → LastsMoved n k D (paint n p v D)
 paint-moved n k v p D c f =
     record {
       stays = λ x a b h. on (p x) (λ t. absurd (let z : at D x < k = f x a b t in omega arith)) (λ t. at-out n v p D x a b t);
@@ -55,13 +55,13 @@ pub open-over : (n k : ℕ) (D : List ℕ) (x : ℕ) → 1 ≤ x → x ≤ n →
 open-over n k D x a b e = ltb-true (at D x) k (sym (open-is n k D x a b) ∙ eq-eqb (at (shown n k D) x) open' e)
 
 -- a link that is not open stays so
-closed-stays : (n k : ℕ) (D D' : List ℕ) (x : ℕ) → Moved n k D D' → 1 ≤ x → x ≤ n → eqb (at (shown n k D) x) open' ≡ false → eqb (at (shown n k D') x) open' ≡ false
+closed-stays : (n k : ℕ) (D D' : List ℕ) (x : ℕ) → LastsMoved n k D D' → 1 ≤ x → x ≤ n → eqb (at (shown n k D) x) open' ≡ false → eqb (at (shown n k D') x) open' ≡ false
 closed-stays n k D D' x y a b e =
     let f : ltb (at D x) k ≡ false = sym (open-is n k D x a b) ∙ e in
     open-is n k D' x a b ∙ ap (λ (z : ℕ). ltb z k) (y .stays x a b (ltb-false (at D x) k f)) ∙ f
 
 -- so the next search for an open link may start where the last one ended
-pub next-from : (n k l r : ℕ) (D D' : List ℕ) → l ≤ n → l ≡ runFrom n (shown n k D) → Moved n k D D' → r ≡ seek (λ x. eqb (at (shown n k D') x) open') l (n + 1 - l)
+pub next-from : (n k l r : ℕ) (D D' : List ℕ) → l ≤ n → l ≡ runFrom n (shown n k D) → LastsMoved n k D D' → r ≡ seek (λ x. eqb (at (shown n k D') x) open') l (n + 1 - l)
     → r ≡ runFrom n (shown n k D')
 unfolding runFrom
 next-from n k l r D D' h e y q =

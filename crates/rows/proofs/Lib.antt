@@ -6,9 +6,9 @@ pub mod ShownLaws
 pub mod PlainLaws
 pub mod LastLaws
 pub mod FitLaws
-pub mod HoldLaws
+pub mod AreaLaws
 pub mod StepLaws
-pub mod ScanLaws
+pub mod OneStepLaws
 pub mod RowLoop
 pub mod RowLaws
 pub mod FillLaws

@@ -20,17 +20,14 @@ use Rattle.method.specs.Line.{circuit, uses}
 use Rattle.method.specs.Sheet.{at, load, need, most}
 use Rattle.method.proofs.Colours.{at-each, at-each-cases}
 use Rattle.records.specs.declared.Circuit.{Circuit}
-use Rattle.rows.specs.Loads.{oneUpAt, oneUp, Below, rounded, roundedAt}
-use Rattle.rows.proofs.Written.{links-are, Written}
+use Rattle.rows.specs.inner.Loads.{oneUpAt, oneUp, Below, rounded, roundedAt}
+use Rattle.rows.specs.inner.Loops.{Written, upAt, loadTo}
+use Rattle.rows.proofs.Written.{links-are}
 
 -- what is at most v at each link is so at link x
 pub below-at : (v : ℕ) (C : List ℕ) (x : ℕ) → Below v C → at C x ≤ v
 unfolding Below
 below-at v C x h = h x
-
--- what a link gets while links go one up
-abbrev pub upAt : List ℕ → ℕ → ℕ
-upAt C x = at C x + 1
 
 -- the loop has put links a to b one up
 pub one-up : (n a b i : ℕ) (C₀ C : List ℕ) → length C₀ ≡ n → i ≡ b + 1 → Written (upAt C₀) a i C₀ C → C ≡ oneUp n a b C₀
@@ -41,10 +38,6 @@ one-up n a b i C₀ C l e y =
     by-le a x
     (λ g. by-le x b (λ h. rw (le-leb a x g, le-leb x b h) (y .done x g (omega arith))) (λ h. rw (le-leb a x g, lt-leb x b h) (y .late x (omega arith))))
     (λ g. rw (lt-leb a x g) (y .early x g)))
-
--- how many of the first j circuits use link x
-pub loadTo : List Circuit → ℕ → ℕ → ℕ
-loadTo cs j x = count (λ d. uses (circuit cs d) x) j
 
 -- before the first circuit
 pub load-none : (cs : List Circuit) (n : ℕ) (C : List ℕ) → C ≡ replicate n 0 → C ≡ each (loadTo cs 0) 1 n

@@ -18,9 +18,9 @@ use Rattle.method.proofs.Colours.{at-each, at-paint, from-same, inRun-same, fit
 use Rattle.method.proofs.Steps.{step-keeps}
 use Rattle.records.specs.declared.Circuit.{Circuit}
 use Rattle.records.specs.Area.{lastsIn, rowsIn}
-use Rattle.rows.specs.Area.{stateIn, Holds}
-use Rattle.rows.specs.Colours.{blueRow, shownAs, shown, alike, plain, Moved}
-use Rattle.rows.specs.Filled.{Resting, Sheeted}
+use Rattle.rows.specs.inner.Area.{stateIn, Shows}
+use Rattle.rows.specs.inner.Colours.{blueRow, shownAs, shown, alike, plain, LastsMoved}
+use Rattle.rows.specs.inner.Sheeted.{Resting, Sheeted}
 use Rattle.rows.proofs.Written.{at-past}
 use Rattle.rows.proofs.RedLaws.{red-low}
 use Rattle.rows.proofs.ShownLaws.{shown-at, shown-open, shown-blue, shown-red, shown-blues}
@@ -159,11 +159,11 @@ shown-plain n m k C =
     (sym (shown-is n k (lastsIn n C) (shown n k (lastsIn n C)) (λ x a b. sym (ap tone (shown-at n k (lastsIn n C) x a b) ∙ shown-tone k (at (lastsIn n C) x)))))
 
 -- nothing moved
-pub moved-refl : (n k : ℕ) (D : List ℕ) → Moved n k D D
+pub moved-refl : (n k : ℕ) (D : List ℕ) → LastsMoved n k D D
 moved-refl n k D = record { stays = λ x a b h. refl; low = λ x a b h e. omega arith }
 
 -- one move after another
-pub moved-then : (n k : ℕ) (D D' D'' : List ℕ) → Moved n k D D' → Moved n k D' D'' → Moved n k D D''
+pub moved-then : (n k : ℕ) (D D' D'' : List ℕ) → LastsMoved n k D D' → LastsMoved n k D' D'' → LastsMoved n k D D''
 moved-then n k D D' D'' p q =
     record {
       stays = λ x a b h. let e = p .stays x a b h in q .stays x a b (omega arith) ∙ e;
@@ -200,7 +200,7 @@ begun-is n w k cs K D low few y =
 
 -- a row more
 pub sheet-turn : (n m w k : ℕ) (cs : List Circuit) (C C' : List ℕ) → Lies n cs → length cs ≡ m → 1 ≤ k → k < 65535 → most n w cs * w ≤ 65533 → Sheeted n m w (k - 1) cs C
-    → Holds n m k (plain n (steps n cs n k (stateIn n m k C))) C C' → Sheeted n m w k cs C'
+    → Shows n m k (plain n (steps n cs n k (stateIn n m k C))) C C' → Sheeted n m w k cs C'
 unfolding sheet row begun fresh
 sheet-turn n m w zero cs C C' lies len pos low few h g = absurd (omega arith)
 sheet-turn n m w (suc k) cs C C' lies len pos low few h g =

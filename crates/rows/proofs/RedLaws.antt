@@ -10,21 +10,13 @@ use Rattle.basics.specs.Tools.{each}
 use Rattle.method.specs.Sheet.{at}
 use Rattle.records.specs.Bytes.{cell, setCell, cellsOf}
 use Rattle.records.proofs.CellLaws.{cell-is, stored}
-use Rattle.rows.specs.Loads.{Below}
-use Rattle.rows.proofs.Written.{at-get, at-front, Written, written-turn, written-all}
+use Rattle.rows.specs.inner.Loads.{Below}
+use Rattle.rows.specs.inner.Loops.{Reddening}
+use Rattle.rows.proofs.Written.{at-get, at-front, written-turn, written-all}
 
--- the last red row of link x
-abbrev pub redAt : ℕ → ℕ → List ℕ → ℕ → ℕ
-redAt most w C x = (most - at C x) * w
-
--- it is at most M × w
+-- a last red row is at most M × w
 pub red-low : (most w c v : ℕ) → most * w ≤ v → (most - c) * w ≤ v
 red-low most w c v h = omega (arith, mul-le-mul-right w (sub-le most c))
-
--- while last red rows are written, after i links: the needs are as they were, the first i rows are written
-pub record Reddening (n : ℕ) (f : ℕ → ℕ) (i : ℕ) (C₀ C : List ℕ) : Type 0 where
-  pub front : take n C ≡ take n C₀
-  pub back : Written f 1 (i + 1) (drop n C₀) (drop n C)
 
 -- what is read as the need of link i + 1
 pub red-need : (n i v : ℕ) (f : ℕ → ℕ) (C₀ b : List ℕ) → Reddening n f i C₀ (cellsOf b) → i < n → 4 * n ≤ length b → v ≡ cell b i → v ≡ at C₀ (i + 1)

@@ -12,23 +12,23 @@ use Rattle.queue.specs.declared.Queue.{Queue}
 use Rattle.queue.specs.Queued.{Queued}
 use Rattle.records.specs.declared.Circuit.{Circuit}
 use Rattle.records.specs.Area.{lastsIn, rowsIn}
-use Rattle.rows.specs.Area.{stateIn, Holds}
-use Rattle.rows.specs.Colours.{shown, plain, Moved}
-use Rattle.rows.specs.Filled.{Sheeted}
+use Rattle.rows.specs.inner.Area.{stateIn, Shows}
+use Rattle.rows.specs.inner.Colours.{shown, plain, LastsMoved}
+use Rattle.rows.specs.inner.Sheeted.{Sheeted}
 use Rattle.rows.proofs.PlainLaws.{plain-from, plain-step, shown-plain, plain-opens, step-long, moved-refl, moved-then, sheet-turn}
 use Rattle.rows.proofs.RowLoop.{InLoop, loop-start, loop-turn, loop-end, loop-less}
 
 -- at the head of the loop of row k: the work area shows a state of the row, and what is left of the row leads from it to where all of it leads from what C₀ shows
-pub record RowHolds (n m k : ℕ) (cs : List Circuit) (C₀ C : List ℕ) : Type 0 where
+pub record RowShows (n m k : ℕ) (cs : List Circuit) (C₀ C : List ℕ) : Type 0 where
   pub reached : State
   pub long : length (reached .colours) ≡ n
   pub seen : plain n reached ≡ stateIn n m k C
   pub left : InLoop n cs k (steps n cs n k (stateIn n m k C₀)) reached
   pub needs : take n C ≡ take n C₀
-  pub moved : Moved n k (lastsIn n C₀) (lastsIn n C)
+  pub moved : LastsMoved n k (lastsIn n C₀) (lastsIn n C)
 
 -- before the first step
-pub row-start : (n m k : ℕ) (cs : List Circuit) (C : List ℕ) → RowHolds n m k cs C C
+pub row-start : (n m k : ℕ) (cs : List Circuit) (C : List ℕ) → RowShows n m k cs C C
 unfolding shown
 row-start n m k cs C =
     record {
@@ -46,12 +46,12 @@ run-seen n m k C s l e = sym (ap (λ (t : State). runFrom n (t .colours)) e) ∙
 
 -- a step of what is seen is a step of the state
 step-seen : (n m k : ℕ) (cs : List Circuit) (C C' : List ℕ) (s : State) → Lies n cs → length (s .colours) ≡ n → plain n s ≡ stateIn n m k C
-    → Holds n m k (plain n (step n cs k (stateIn n m k C))) C C' → plain n (step n cs k s) ≡ stateIn n m k C'
+    → Shows n m k (plain n (step n cs k (stateIn n m k C))) C C' → plain n (step n cs k s) ≡ stateIn n m k C'
 step-seen n m k cs C C' s lies l e h = sym (plain-step n k cs s lies l) ∙ ap (λ (t : State). plain n (step n cs k t)) e ∙ sym (h .state)
 
 -- one step more
-pub row-turn : (n m k : ℕ) (cs : List Circuit) (C₀ C C' : List ℕ) → Lies n cs → runFrom n (shown n k (lastsIn n C)) ≤ n → RowHolds n m k cs C₀ C
-    → Holds n m k (plain n (step n cs k (stateIn n m k C))) C C' → RowHolds n m k cs C₀ C'
+pub row-turn : (n m k : ℕ) (cs : List Circuit) (C₀ C C' : List ℕ) → Lies n cs → runFrom n (shown n k (lastsIn n C)) ≤ n → RowShows n m k cs C₀ C
+    → Shows n m k (plain n (step n cs k (stateIn n m k C))) C C' → RowShows n m k cs C₀ C'
 row-turn n m k cs C₀ C C' lies l y h =
     let s = y .reached in
     let f = run-seen n m k C s (y .long) (y .seen) in
@@ -65,8 +65,8 @@ row-turn n m k cs C₀ C C' lies l y h =
     }
 
 -- no link is open
-pub row-end : (n m k : ℕ) (cs : List Circuit) (C₀ C : List ℕ) → n < runFrom n (shown n k (lastsIn n C)) → RowHolds n m k cs C₀ C
-    → Holds n m k (plain n (steps n cs n k (stateIn n m k C₀))) C₀ C
+pub row-end : (n m k : ℕ) (cs : List Circuit) (C₀ C : List ℕ) → n < runFrom n (shown n k (lastsIn n C)) → RowShows n m k cs C₀ C
+    → Shows n m k (plain n (steps n cs n k (stateIn n m k C₀))) C₀ C
 row-end n m k cs C₀ C l y =
     let s = y .reached in
     let f = run-seen n m k C s (y .long) (y .seen) in
@@ -77,8 +77,8 @@ row-end n m k cs C₀ C l y =
     }
 
 -- a step takes at least one link from the open ones
-pub row-less : (n m k : ℕ) (cs : List Circuit) (C₀ C C' : List ℕ) → Lies n cs → runFrom n (shown n k (lastsIn n C)) ≤ n → RowHolds n m k cs C₀ C
-    → Holds n m k (plain n (step n cs k (stateIn n m k C))) C C' → opens n (stateIn n m k C') < opens n (stateIn n m k C)
+pub row-less : (n m k : ℕ) (cs : List Circuit) (C₀ C C' : List ℕ) → Lies n cs → runFrom n (shown n k (lastsIn n C)) ≤ n → RowShows n m k cs C₀ C
+    → Shows n m k (plain n (step n cs k (stateIn n m k C))) C C' → opens n (stateIn n m k C') < opens n (stateIn n m k C)
 row-less n m k cs C₀ C C' lies l y h =
     let s = y .reached in
     let f = run-seen n m k C s (y .long) (y .seen) in
@@ -99,7 +99,7 @@ first-there n m cs e lies j h = (lies j (omega arith)) .0
 
 -- THE ROWS. One row more
 pub sheet-more : (n m w top k : ℕ) (cs : List Circuit) (C C' : List ℕ) → Lies n cs → length cs ≡ m → 1 ≤ k → k < 65535 → top ≡ most n w cs → top * w ≤ 65533 → Sheeted n m w (k - 1) cs C
-    → Holds n m k (plain n (steps n cs n k (stateIn n m k C))) C C' → Sheeted n m w (k + 1 - 1) cs C'
+    → Shows n m k (plain n (steps n cs n k (stateIn n m k C))) C C' → Sheeted n m w (k + 1 - 1) cs C'
 sheet-more n m w top k cs C C' lies l a b e h y g =
     let z : k ≡ k + 1 - 1 = omega arith in
     subst (λ (i : ℕ). Sheeted n m w i cs C') z (sheet-turn n m w k cs C C' lies l a b (subst (λ (t : ℕ). t * w ≤ 65533) e h) y g)

@@ -18,7 +18,7 @@ use Rattle.records.specs.Bytes.{cell, cellsOf}
 use Rattle.records.proofs.Encode.{cells-fit}
 use Rattle.scans.specs.Scans.{within, cellWithin}
 use Rattle.scans.specs.declared.Bounds.{Bounds}
-use Rattle.rows.specs.Colours.{blueRow, shownAs, shown, BlueTo, Around}
+use Rattle.rows.specs.inner.Colours.{blueRow, shownAs, shown, BlueTo, Around}
 use Rattle.rows.proofs.Written.{at-past, read}
 
 -- the colour of a link, by its last row

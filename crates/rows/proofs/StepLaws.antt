@@ -24,10 +24,10 @@ use Rattle.records.specs.Records.{recordAt, circuitOf, circuitsIn}
 use Rattle.records.specs.declared.Circuit.{Circuit}
 use Rattle.records.proofs.CellLaws.{cell-is, stored}
 use Rattle.records.specs.Area.{lastsIn, rowsIn}
-use Rattle.rows.specs.Area.{stateIn, Holds, Placed}
-use Rattle.rows.specs.Colours.{blueRow, shownAs, shown, plain, Moved, Around, between, painted}
+use Rattle.rows.specs.inner.Area.{stateIn, Shows, Placed}
+use Rattle.rows.specs.inner.Colours.{blueRow, shownAs, shown, plain, LastsMoved, Around, between, painted}
 use Rattle.rows.specs.declared.colours.Run.{Run}
-use Rattle.rows.proofs.HoldLaws.{enter-row}
+use Rattle.rows.proofs.AreaLaws.{enter-row}
 use Rattle.rows.proofs.LastLaws.{shown-paint, paint-moved, open-over}
 use Rattle.rows.proofs.ShownLaws.{shown-red, shown-blue}
 
@@ -64,7 +64,7 @@ acted : (n m k v colour : ℕ) (cs : List Circuit) (C C' R : List ℕ) (o : Opti
     → ((x : ℕ) → p x ≡ q x) → ((x : ℕ) → q x ≡ true → inRun n (shown n k (lastsIn n C)) x ≡ true)
     → shownAs k v ≡ cond (eqb colour taken) red colour → (v ≢ blueRow → v ≤ k)
     → take n C' ≡ take n C → lastsIn n C' ≡ paint n p v (lastsIn n C) → rowsIn n m C' ≡ R
-    → Holds n m k (plain n (step n cs k (stateIn n m k C))) C C'
+    → Shows n m k (plain n (step n cs k (stateIn n m k C))) C C'
 unfolding step
 acted n m k v colour cs C C' R o p q line e z same inside shows small needs lasts rows =
     let D = lastsIn n C in
@@ -74,13 +74,13 @@ acted n m k v colour cs C C' R o p q line e z same inside shows small needs last
     record {
       needs = needs;
       state = ap₂ (λ (x y : List ℕ). record { colours = x; rows = y }) (ap (shown n k) d ∙ shown-paint n k v colour q D shows) rows ∙ sym (ap (plain n) s);
-      moved = subst (Moved n k D) (sym d) (paint-moved n k v q D small (λ x a b t. open-over n k D x a b (run-open n K x (inside x t))));
+      moved = subst (LastsMoved n k D) (sym d) (paint-moved n k v q D small (λ x a b t. open-over n k D x a b (run-open n K x (inside x t))));
     }
 
 -- nobody fits: the run turns blue
 pub blue-step : (n m k : ℕ) (cs : List Circuit) (C C' : List ℕ) (run : Run) → k < 65535 → run .from ≤ n → Around n (shown n k (lastsIn n C)) run → chosen n cs (stateIn n m k C) ≡ none
     → take n C' ≡ take n C → lastsIn n C' ≡ painted n (run .from) (run .past) blueRow (lastsIn n C) → rowsIn n m C' ≡ rowsIn n m C
-    → Holds n m k (plain n (step n cs k (stateIn n m k C))) C C'
+    → Shows n m k (plain n (step n cs k (stateIn n m k C))) C C'
 unfolding act
 blue-step n m k cs C C' run h line y e needs lasts rows =
     let K : List ℕ = shown n k (lastsIn n C) in
@@ -89,7 +89,7 @@ blue-step n m k cs C C' run h line y e needs lasts rows =
 
 -- a circuit is placed
 pub place-step : (n m k p : ℕ) (cs : List Circuit) (C C' L L' : List ℕ) (run : Run) → k < 65535 → run .from ≤ n → Around n (shown n k (lastsIn n C)) run
-    → chosen n cs (stateIn n m k C) ≡ some (placeIn m L p) → Placed n m k p run cs C C' L L' → Holds n m k (plain n (step n cs k (stateIn n m k C))) C C'
+    → chosen n cs (stateIn n m k C) ≡ some (placeIn m L p) → Placed n m k p run cs C C' L L' → Shows n m k (plain n (step n cs k (stateIn n m k C))) C C'
 unfolding act
 place-step n m k p cs C C' L L' run h line y e g =
     let K : List ℕ = shown n k (lastsIn n C) in

@@ -12,6 +12,7 @@ use Rattle.basics.proofs.Tables.{is-each}
 use Rattle.method.specs.Sheet.{at}
 use Rattle.records.specs.Bytes.{cell, cellsOf}
 use Rattle.records.proofs.CellLaws.{cell-is}
+use Rattle.rows.specs.inner.Loops.{Written}
 
 -- a link's cell, by its place in the list
 pub at-get : (C : List ℕ) (i : ℕ) → 1 ≤ i → getD C (i - 1) 0 ≡ at C i
@@ -30,11 +31,11 @@ pub at-front : (n : ℕ) (C : List ℕ) (x : ℕ) → 1 ≤ x → x ≤ n → at
 at-front n C x a b = sym (at-get C x a) ∙ sym (getD-take n C (x - 1) 0 (omega arith)) ∙ at-get (take n C) x a
 
 -- a store to link i is found there
-pub at-set-same : (C : List ℕ) (i v : ℕ) → 1 ≤ i → i ≤ length C → at (set C (i - 1) v) i ≡ v
+at-set-same : (C : List ℕ) (i v : ℕ) → 1 ≤ i → i ≤ length C → at (set C (i - 1) v) i ≡ v
 at-set-same C i v l h = sym (at-get (set C (i - 1) v) i l) ∙ getD-set-same C (i - 1) v 0 (omega arith)
 
 -- and changes no other link
-pub at-set-other : (C : List ℕ) (i x v : ℕ) → 1 ≤ i → x ≢ i → at (set C (i - 1) v) x ≡ at C x
+at-set-other : (C : List ℕ) (i x v : ℕ) → 1 ≤ i → x ≢ i → at (set C (i - 1) v) x ≡ at C x
 unfolding at
 at-set-other C i zero v l h = refl
 at-set-other C i (suc x) v l h = getD-set-other C (i - 1) x v 0 (omega arith)
@@ -43,14 +44,6 @@ at-set-other C i (suc x) v l h = getD-set-other C (i - 1) x v 0 (omega arith)
 pub links-are : (n : ℕ) (C : List ℕ) (f : ℕ → ℕ) → length C ≡ n → ((x : ℕ) → 1 ≤ x → x ≤ n → at C x ≡ f x) → C ≡ each f 1 n
 unfolding at
 links-are n C f l h = is-each f 1 n 0 C l (λ i b. h (suc i) (omega arith) (omega arith) ∙ ap f (omega arith))
-
--- a loop that writes f at the links from `start` on, before link i: those are written, the others are as they were
-pub record Written (f : ℕ → ℕ) (start i : ℕ) (C₀ C : List ℕ) : Type 0 where
-  pub since : start ≤ i
-  pub long : length C ≡ length C₀
-  pub done : (x : ℕ) → start ≤ x → x < i → at C x ≡ f x
-  pub early : (x : ℕ) → x < start → at C x ≡ at C₀ x
-  pub late : (x : ℕ) → i ≤ x → at C x ≡ at C₀ x
 
 -- before the first link
 pub written-start : (f : ℕ → ℕ) (start : ℕ) (C : List ℕ) → Written f start start C C

@@ -1,6 +1,3 @@
 pub mod Accepted
-pub mod Colours
-pub mod Area
-pub mod Loads
-pub mod Choice
 pub mod Filled
+pub mod inner

@@ -2,20 +2,19 @@
 use crate::colours::Run;
 use queue::Queue;
 use scans::Bounds;
-ghost use Prim.Native.Nat.{_+_, _-_, _*_, _<_, _≤_};
+ghost use Prim.Native.Nat.{_<_, _≤_};
 ghost use mathlib.Core.Path.{_≡_};
-ghost use lib.ListN.{length, getD};
-ghost use Rattle.basics.specs.Tools.{seek};
 ghost use Rattle.records.specs.Bytes.{cellsOf};
-ghost use Rattle.rows.specs.Choice.{fitsRun};
+ghost use Rattle.queue.specs.Queued.{InList, firstPlace};
+ghost use Rattle.rows.specs.inner.Choice.{fitsAt};
 
 // The first place of the queue with a circuit that fits the run, or the queue's end: its ends lie within two bounds.
-pub fn first_fit(m: usize, list: &[u8], waiting: Queue, run: Run) -> usize
-    requires { ⌜ (m ≤ 2048) × (length (now list) ≡ 8 * m) × (waiting .from ≤ waiting .to) × (waiting .to ≤ m) ⌝ }
+pub fn lowest_fit(m: usize, list: &[u8], waiting: Queue, run: Run) -> usize
+    requires { ⌜ InList m (now list) waiting ⌝ }
     requires { ⌜ (run .low ≤ run .from) × (run .from < run .past) × (run .past ≤ run .high) × (run .high ≤ 513) ⌝ }
-    ensures { λ r. ⌜ r ≡ seek (λ p. fitsRun run (getD (cellsOf (now (list .entry))) p 0) (getD (cellsOf (now (list .entry))) (m + p) 0)) (waiting .from) (waiting .to - waiting .from) ⌝ }
+    ensures { λ r. ⌜ r ≡ firstPlace waiting (fitsAt m run (cellsOf (now (list .entry)))) ⌝ }
 {
-    queue::first_fit(
+    queue::first_waiting(
         m,
         list,
         waiting,

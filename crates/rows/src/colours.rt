@@ -6,9 +6,9 @@ ghost use mathlib.Core.Path.{_≡_};
 ghost use lib.ListN.{length};
 ghost use Rattle.basics.specs.Tools.{seek};
 ghost use lib.Dec.{eqb};
-ghost use Rattle.method.specs.Sheet.{at, open', runFrom};
+ghost use Rattle.method.specs.Sheet.{at, open'};
 ghost use Rattle.records.specs.Bytes.{cellsOf};
-ghost use Rattle.rows.specs.Colours.{shown, BlueTo, Around, painted};
+ghost use Rattle.rows.specs.inner.Colours.{shown, AtRun, BlueTo, Around, painted};
 
 // The last row of a blue link.
 pub const BLUE: u16 = 65535;
@@ -51,7 +51,7 @@ fn blue_to(lasts: &[u8], n: usize, k: u16, stop: usize) -> usize
 
 // The run of row k that starts at l, the first open link.
 pub fn run_at(lasts: &[u8], n: usize, k: u16, l: usize) -> Run
-    requires { ⌜ (length (now lasts) ≡ 2 * n) × (n ≤ 512) × (1 ≤ k) × (k < 65535) × (l ≤ n) × (l ≡ runFrom n (shown n k (cellsOf (now lasts)))) ⌝ }
+    requires { ⌜ (length (now lasts) ≡ 2 * n) × (n ≤ 512) × AtRun n k l (cellsOf (now lasts)) ⌝ }
     ensures { λ run. ⌜ Around n (shown n k (cellsOf (now (lasts .entry)))) run ⌝ }
 {
     let not_over = Bounds { low: k, high: BLUE };

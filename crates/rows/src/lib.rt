@@ -5,20 +5,21 @@ mod colours;
 mod loads;
 mod sheet;
 
+use crate::sheet::Size;
 ghost use Prim.Native.Nat.{_+_, _*_};
 ghost use mathlib.Core.Path.{_≡_};
 ghost use lib.ListN.{length};
 ghost use Rattle.method.specs.Sheet.{most};
-ghost use Rattle.records.specs.Bytes.{cellsOf};
 ghost use Rattle.records.specs.Records.{circuitsIn};
 ghost use Rattle.rows.specs.Accepted.{Accepted};
-ghost use Rattle.rows.specs.Filled.{Filled, Sheeted};
+ghost use Rattle.rows.specs.Filled.{Filled};
+ghost use Rattle.rows.specs.inner.Sheeted.{Prepared};
 
 // Everything is zeroed, c(i) of each link is counted, and its last red row follows; M is handed back.
 fn prepare(n: usize, m: usize, w: usize, circuits: &[u8], work: &mut [u8]) -> usize
     requires { ⌜ Accepted n w m (now circuits) ⌝ }
     requires { ⌜ length (now work) ≡ 4 * n + 4 * m ⌝ }
-    ensures { λ r. ⌜ (length (now (work .exit)) ≡ 4 * n + 4 * m) × (r ≡ most n w (circuitsIn m (now (circuits .entry)))) × Sheeted n m w 0 (circuitsIn m (now (circuits .entry))) (cellsOf (now (work .exit))) ⌝ }
+    ensures { λ r. ⌜ Prepared n m w (now (circuits .entry)) (now (work .exit)) r ⌝ }
 {
     let k = 4 * n + 4 * m;
     records::cells::zero(work, k);
@@ -43,6 +44,10 @@ pub fn fill_sheet(
     ensures { λ r. ⌜ (r ≡ most n w (circuitsIn m (now (circuits .entry)))) × Filled n w m (now (circuits .entry)) (now (work .exit)) × (length (now (list .exit)) ≡ 8 * m) ⌝ }
 {
     let most = prepare(n, m, w, circuits, work);
-    sheet::all_rows(n, m, w, most, circuits, work, list);
+    let size = Size {
+        links: n,
+        circuits: m,
+    };
+    sheet::all_rows(size, w, most, circuits, work, list);
     most
 }

@@ -1,14 +1,13 @@
 // The load of each link, and c(i), in the first n cells of the work area: link i has cell i - 1.
-ghost use Prim.Native.Nat.{_-_, _*_, _≤_, max};
+ghost use Prim.Native.Nat.{_*_, _≤_, max};
 ghost use mathlib.Core.Path.{_≡_};
-ghost use lib.ListN.{length, take, drop, replicate};
-ghost use Rattle.basics.specs.Tools.{each, top};
-ghost use Rattle.method.specs.Line.{Lies};
-ghost use Rattle.method.specs.Sheet.{at, load, need, most};
+ghost use lib.ListN.{length, take};
+ghost use Rattle.basics.specs.Tools.{each};
+ghost use Rattle.method.specs.Sheet.{load};
 ghost use Rattle.records.specs.Bytes.{cellsOf};
 ghost use Rattle.records.specs.Records.{circuitsIn};
-ghost use Rattle.rows.specs.Accepted.{Accepted};
-ghost use Rattle.rows.specs.Loads.{oneUp, Below, rounded, roundedAt};
+ghost use Rattle.rows.specs.Accepted.{OnLine, Accepted};
+ghost use Rattle.rows.specs.inner.Loads.{oneUp, Below, rounded, RoundedAll, NeedsCounted, Zeroed, RedsWritten};
 
 // Links a to b one up.
 fn add_one(cells: &mut [u8], n: usize, a: usize, b: usize)
@@ -24,9 +23,7 @@ fn add_one(cells: &mut [u8], n: usize, a: usize, b: usize)
 
 // The load of each link.
 fn count_loads(circuits: &[u8], m: usize, cells: &mut [u8], n: usize)
-    requires { ⌜ (length (now circuits) ≡ 8 * m) × (m ≤ 2048) × (length (now cells) ≡ 2 * n) × (n ≤ 512) ⌝ }
-    requires { ⌜ Lies n (circuitsIn m (now circuits)) ⌝ }
-    requires { ⌜ cellsOf (now cells) ≡ replicate n 0 ⌝ }
+    requires { ⌜ OnLine n m (now circuits) × Zeroed n (now cells) ⌝ }
     ensures { λ _. ⌜ cellsOf (now (cells .exit)) ≡ each (load (circuitsIn m (now (circuits .entry)))) 1 n ⌝ }
 {
     for j in 0..m {
@@ -41,7 +38,7 @@ fn count_loads(circuits: &[u8], m: usize, cells: &mut [u8], n: usize)
 }
 
 // A load over w, rounded up.
-fn layers(load: u16, w: usize) -> u16
+fn needed(load: u16, w: usize) -> u16
     requires { ⌜ (1 ≤ w) × (w ≤ 80) × (load ≤ 2048) ⌝ }
     ensures { λ r. ⌜ r ≡ rounded w load ⌝ }
 {
@@ -57,15 +54,15 @@ fn larger(a: u16, b: u16) -> u16
 }
 
 // Each load becomes c(i); the largest is handed back.
-fn count_layers(cells: &mut [u8], n: usize, w: usize) -> u16
+fn loads_to_needs(cells: &mut [u8], n: usize, w: usize) -> u16
     requires { ⌜ (length (now cells) ≡ 2 * n) × (n ≤ 512) × (1 ≤ w) × (w ≤ 80) × Below 2048 (cellsOf (now cells)) ⌝ }
-    ensures { λ r. ⌜ (r ≡ top (roundedAt w (cellsOf (now (cells .entry)))) n) × (cellsOf (now (cells .exit)) ≡ each (roundedAt w (cellsOf (now (cells .entry)))) 1 n) ⌝ }
+    ensures { λ r. ⌜ RoundedAll n w (cellsOf (now (cells .entry))) (cellsOf (now (cells .exit))) r ⌝ }
 {
     let mut most: u16 = 0;
     let e = n + 1;
     for i in 1..e {
         let v = records::cells::get(cells, i - 1);
-        let c = layers(v, w);
+        let c = needed(v, w);
         records::cells::put(cells, i - 1, c);
         most = larger(most, c);
     }
@@ -74,18 +71,17 @@ fn count_layers(cells: &mut [u8], n: usize, w: usize) -> u16
 
 // c(i) of each link, and M.
 pub fn count_needs(circuits: &[u8], m: usize, cells: &mut [u8], n: usize, w: usize) -> u16
-    requires { ⌜ Accepted n w m (now circuits) ⌝ }
-    requires { ⌜ (length (now cells) ≡ 2 * n) × (cellsOf (now cells) ≡ replicate n 0) ⌝ }
-    ensures { λ r. ⌜ (r ≡ most n w (circuitsIn m (now (circuits .entry)))) × (cellsOf (now (cells .exit)) ≡ each (need w (circuitsIn m (now (circuits .entry)))) 1 n) ⌝ }
+    requires { ⌜ Accepted n w m (now circuits) × Zeroed n (now cells) ⌝ }
+    ensures { λ r. ⌜ NeedsCounted n w (circuitsIn m (now (circuits .entry))) (cellsOf (now (cells .exit))) r ⌝ }
 {
     count_loads(circuits, m, cells, n);
-    count_layers(cells, n, w)
+    loads_to_needs(cells, n, w)
 }
 
 // The last red row of each link, in the second n cells: (M - c(i)) * w.
 pub fn last_reds(cells: &mut [u8], n: usize, w: usize, most: usize)
     requires { ⌜ (length (now cells) ≡ 4 * n) × (n ≤ 512) × (most * w ≤ 65534) × Below most (take n (cellsOf (now cells))) ⌝ }
-    ensures { λ _. ⌜ (length (now (cells .exit)) ≡ 4 * n) × (take n (cellsOf (now (cells .exit))) ≡ take n (cellsOf (now (cells .entry)))) × (drop n (cellsOf (now (cells .exit))) ≡ each (λ x. (most - at (cellsOf (now (cells .entry))) x) * w) 1 n) ⌝ }
+    ensures { λ _. ⌜ RedsWritten n w most (now (cells .entry)) (now (cells .exit)) ⌝ }
 {
     for i in 0..n {
         let c = records::cells::get(cells, i);

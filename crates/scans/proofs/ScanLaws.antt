@@ -13,7 +13,8 @@ use Rattle.basics.proofs.Searches.{seek-here, seek-skip}
 use Rattle.records.specs.Bytes.{cell, cellsOf}
 use Rattle.records.proofs.CellLaws.{cell-is}
 use Rattle.scans.specs.declared.Bounds.{Bounds}
-use Rattle.scans.specs.Scans.{CameTo, bothWithin, cellWithin, within}
+use Rattle.scans.specs.inner.Chunks.{CameTo}
+use Rattle.scans.specs.Scans.{bothWithin, cellWithin, within}
 
 -- not below the bounds, and not above them
 pub within-hit : (b : Bounds) (x : ℕ) → b .low ≤ x → leb x (b .high) ≡ true → within b x ≡ true

@@ -1,11 +1,10 @@
--- What the searches look for in columns of cells, and how far they have come. Assumes nothing.
-use Prim.Native.Nat.{ℕ, _-_, _≤_}
+-- What the searches look for in columns of cells. A contract between crates.
+-- Assumes nothing.
+use Prim.Native.Nat.{ℕ, _*_, _≤_}
 use mathlib.Core.Bool.{Bool, _&&_}
 use mathlib.Core.List.{List}
-use mathlib.Core.Path.{_≡_}
-use lib.ListN.{getD}
+use lib.ListN.{length, getD}
 use lib.Dec.{leb}
-use Rattle.basics.specs.Tools.{seek}
 use Rattle.scans.specs.declared.Bounds.{Bounds}
 
 -- whether a number lies within the bounds
@@ -20,6 +19,9 @@ cellWithin b C i = within b (getD C i 0)
 unfoldable pub bothWithin : Bounds → Bounds → List ℕ → List ℕ → ℕ → Bool
 bothWithin a b A B p = cellWithin a A p && cellWithin b B p
 
--- the search from `from` to before `to` may go on at place i: it finds the same
-abbrev pub CameTo : (ℕ → Bool) → ℕ → ℕ → ℕ → Type 0
-CameTo p from to i = (from ≤ i) × (i ≤ to) × (seek p i (to - i) ≡ seek p from (to - from))
+-- two columns of bytes are searched together from place `from` to before place `to`, each for its bounds
+pub record Searched (firsts lasts : List ℕ) (from to : ℕ) (a b : Bounds) : Type 0 where
+  pub in-firsts : 2 * to ≤ length firsts
+  pub in-lasts : 2 * to ≤ length lasts
+  pub places : (from ≤ to) × (to ≤ 65535)
+  pub bounds : (a .low ≤ a .high) × (b .low ≤ b .high)

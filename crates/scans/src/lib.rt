@@ -5,7 +5,8 @@ ghost use Prim.Native.Nat.{_+_, _-_, _*_, _≤_};
 ghost use lib.ListN.{length};
 ghost use Rattle.basics.specs.Tools.{any, seek};
 ghost use Rattle.records.specs.Bytes.{cellsOf};
-ghost use Rattle.scans.specs.Scans.{within, cellWithin, bothWithin, CameTo};
+ghost use Rattle.scans.specs.Scans.{within, cellWithin, bothWithin, Searched};
+ghost use Rattle.scans.specs.inner.Chunks.{CameTo};
 
 // The numbers from `low` to `high`.
 pub struct Bounds {
@@ -75,7 +76,7 @@ fn one_if(t: bool) -> u16
 
 // Whether one of the 32 places from p on has its cells within a and b; hits are counted, since the machine adds up counts in many places at once.
 fn any_of_32(firsts: &[u8], lasts: &[u8], p: usize, a: Bounds, b: Bounds) -> bool
-    requires { ⌜ (2 * (p + 32) ≤ length (now firsts)) × (2 * (p + 32) ≤ length (now lasts)) × (p ≤ 65535) × (a .low ≤ a .high) × (b .low ≤ b .high) ⌝ }
+    requires { ⌜ Searched (now firsts) (now lasts) p (p + 32) a b ⌝ }
     ensures { λ r. ⌜ r ≡ any (λ k. bothWithin a b (cellsOf (now (firsts .entry))) (cellsOf (now (lasts .entry))) (p + k)) 32 ⌝ }
 {
     let mut hits: u16 = 0;
@@ -91,7 +92,7 @@ fn any_of_32(firsts: &[u8], lasts: &[u8], p: usize, a: Bounds, b: Bounds) -> boo
 
 // How far the search may go in whole chunks of 32 that have no place with its cells within a and b.
 fn skip_32(firsts: &[u8], lasts: &[u8], from: usize, to: usize, a: Bounds, b: Bounds) -> usize
-    requires { ⌜ (2 * to ≤ length (now firsts)) × (2 * to ≤ length (now lasts)) × (from ≤ to) × (to ≤ 65535) × (a .low ≤ a .high) × (b .low ≤ b .high) ⌝ }
+    requires { ⌜ Searched (now firsts) (now lasts) from to a b ⌝ }
     ensures { λ r. ⌜ CameTo (bothWithin a b (cellsOf (now (firsts .entry))) (cellsOf (now (lasts .entry)))) from to r ⌝ }
 {
     let mut p = from;
@@ -102,8 +103,15 @@ fn skip_32(firsts: &[u8], lasts: &[u8], from: usize, to: usize, a: Bounds, b: Bo
 }
 
 // The first place from `from` to before `to` whose cell of the first column lies within a and that of the second within b, or `to`.
-pub fn first_fit(firsts: &[u8], lasts: &[u8], from: usize, to: usize, a: Bounds, b: Bounds) -> usize
-    requires { ⌜ (2 * to ≤ length (now firsts)) × (2 * to ≤ length (now lasts)) × (from ≤ to) × (to ≤ 65535) × (a .low ≤ a .high) × (b .low ≤ b .high) ⌝ }
+pub fn first_within_both(
+    firsts: &[u8],
+    lasts: &[u8],
+    from: usize,
+    to: usize,
+    a: Bounds,
+    b: Bounds,
+) -> usize
+    requires { ⌜ Searched (now firsts) (now lasts) from to a b ⌝ }
     ensures { λ r. ⌜ r ≡ seek (bothWithin a b (cellsOf (now (firsts .entry))) (cellsOf (now (lasts .entry)))) from (to - from) ⌝ }
 {
     let mut p = skip_32(firsts, lasts, from, to, a, b);

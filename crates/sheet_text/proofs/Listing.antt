@@ -2,7 +2,8 @@
 use mathlib.Core.Path.{_≡_, refl}
 use mathlib.Core.List.{[], _∷_}
 use Rattle.grid.specs.Frequencies.{channelOf, frequencyOf}
-use Rattle.sheet_text.specs.Text.{decimalIn, decimal, fields, line, fibreLine, circuitLine, totalLine, refusalLine}
+use Rattle.sheet_text.specs.Text.{fields, line, fibreLine, circuitLine, totalLine, refusalLine}
+use Rattle.text.specs.Decimals.{decimalIn, decimal}
 
 -- F 1 2 2 1
 pub first-fibre : fibreLine (record { number = 1; first = 2; last = 2; layer = 1 }) ≡ 70 ∷ 32 ∷ 49 ∷ 32 ∷ 50 ∷ 32 ∷ 50 ∷ 32 ∷ 49 ∷ 10 ∷ []
@@ -50,6 +51,6 @@ unfolding totalLine line fields decimal decimalIn
 totals = refl
 
 -- R 11 0
-pub no-files : refusalLine 11 0 ≡ 82 ∷ 32 ∷ 49 ∷ 49 ∷ 32 ∷ 48 ∷ 10 ∷ []
+pub no-files : refusalLine (record { number = 11; place = 0 }) ≡ 82 ∷ 32 ∷ 49 ∷ 49 ∷ 32 ∷ 48 ∷ 10 ∷ []
 unfolding refusalLine line fields decimal decimalIn
 no-files = refl

@@ -1,23 +1,14 @@
 -- The lines of the sheet, byte for byte. What a reader must believe.
 -- Assumes nothing.
-use Prim.Native.Nat.{ℕ, zero, suc, _+_, _-_, _*_, _/_, _%_}
-use mathlib.Core.Bool.{cond}
+use Prim.Native.Nat.{ℕ, zero, suc}
 use mathlib.Core.List.{List, [], _∷_, _++_}
-use lib.Dec.{ltb}
 use lib.IntN.{natAbs}
+use Rattle.text.specs.Decimals.{decimal}
 use Rattle.grid.specs.Frequencies.{frequencyOf}
 use Rattle.records.specs.Records.{recordAt, fibreOf, assignmentOf}
 use Rattle.records.specs.declared.FibreRecord.{FibreRecord}
 use Rattle.records.specs.declared.AssignmentRecord.{AssignmentRecord}
-
--- the last k digits of x in decimal, as text; a number with fewer has no zeros before it, and one below 10 has one digit
-unfoldable pub decimalIn : ℕ → ℕ → List ℕ
-decimalIn zero x = []
-decimalIn (suc k) x = cond (ltb x 10) ((48 + x) ∷ []) (decimalIn k (x / 10) ++ ((48 + x % 10) ∷ []))
-
--- x in decimal: twenty digits hold every 64-bit number
-unfoldable pub decimal : ℕ → List ℕ
-decimal x = decimalIn 20 x
+use Rattle.refusals.specs.Refusals.{Refusal}
 
 -- a space and x, for each x
 unfoldable pub fields : List ℕ → List ℕ
@@ -41,8 +32,8 @@ unfoldable pub totalLine : ℕ → ℕ → ℕ → List ℕ
 totalLine fibres total floor = line 84 (fibres ∷ total ∷ floor ∷ [])
 
 -- R: number, place
-unfoldable pub refusalLine : ℕ → ℕ → List ℕ
-refusalLine number place = line 82 (number ∷ place ∷ [])
+unfoldable pub refusalLine : Refusal → List ℕ
+refusalLine r = line 82 (r .number ∷ r .place ∷ [])
 
 -- the lines of the first k fibre records
 unfoldable pub fibreLines : ℕ → List ℕ → List ℕ
@@ -57,12 +48,3 @@ circuitLines (suc m) assigns = circuitLines m assigns ++ circuitLine (assignment
 -- the sheet of k fibres and m circuits
 unfoldable pub sheetText : ℕ → ℕ → List ℕ → List ℕ → ℕ → ℕ → List ℕ
 sheetText k m fibres assigns total floor = fibreLines k fibres ++ circuitLines m assigns ++ totalLine k total floor
-
--- READING BACK. The number whose first digits are n and whose further digits are the bytes given
-unfoldable pub valueFrom : ℕ → List ℕ → ℕ
-valueFrom n [] = n
-valueFrom n (d ∷ ds) = valueFrom (10 * n + (d - 48)) ds
-
--- the number that a list of digit bytes stands for
-unfoldable pub value : List ℕ → ℕ
-value ds = valueFrom 0 ds

@@ -3,7 +3,8 @@ ghost use mathlib.Core.Path.{_≡_};
 ghost use mathlib.Core.List.{[], _∷_, _++_};
 ghost use Prim.Native.Nat.{_+_, _≤_};
 ghost use lib.ListN.{length, drop};
-ghost use Rattle.sheet_text.specs.Text.{decimal, line, fibreLine, circuitLine};
+ghost use Rattle.sheet_text.specs.Text.{line, fibreLine, circuitLine};
+ghost use Rattle.text.specs.Decimals.{decimal};
 use crate::fields;
 use records::AssignmentRecord;
 use records::FibreRecord;
@@ -14,7 +15,7 @@ pub fn write_two(letter: u8, x: usize, y: usize, out: &mut [u8]) -> usize
     ensures { λ r. ⌜ (r ≡ length (line letter (x ∷ y ∷ []))) × (now (out .exit) ≡ line letter (x ∷ y ∷ []) ++ drop r (now (out .entry)))
         × (r ≡ 4 + length (decimal x) + length (decimal y)) ⌝ }
 {
-    fields::write_byte(letter, out);
+    text::write_byte(letter, out);
     let n = 1 + fields::write_pair(x, y, &mut out[1..]);
     out[n] = 10;
     n + 1
@@ -26,7 +27,7 @@ pub fn write_three(letter: u8, x: usize, y: usize, z: usize, out: &mut [u8]) -> 
     ensures { λ r. ⌜ (r ≡ length (line letter (x ∷ y ∷ z ∷ []))) × (now (out .exit) ≡ line letter (x ∷ y ∷ z ∷ []) ++ drop r (now (out .entry)))
         × (r ≡ 5 + length (decimal x) + length (decimal y) + length (decimal z)) ⌝ }
 {
-    fields::write_byte(letter, out);
+    text::write_byte(letter, out);
     let n = 1 + fields::write_pair(x, y, &mut out[1..]);
     let m = n + fields::write_field(z, &mut out[n..]);
     out[m] = 10;
@@ -39,7 +40,7 @@ pub fn write_four(letter: u8, x: usize, y: usize, z: usize, t: usize, out: &mut 
     ensures { λ r. ⌜ (r ≡ length (line letter (x ∷ y ∷ z ∷ t ∷ []))) × (now (out .exit) ≡ line letter (x ∷ y ∷ z ∷ t ∷ []) ++ drop r (now (out .entry)))
         × (r ≡ 6 + length (decimal x) + length (decimal y) + length (decimal z) + length (decimal t)) ⌝ }
 {
-    fields::write_byte(letter, out);
+    text::write_byte(letter, out);
     let n = 1 + fields::write_pair(x, y, &mut out[1..]);
     let m = n + fields::write_pair(z, t, &mut out[n..]);
     out[m] = 10;

@@ -3,7 +3,6 @@ pub mod Walk
 pub mod Written
 pub mod Going
 pub mod Layering
-pub mod Files
 pub mod Same
 pub mod Places
 pub mod Assigned

@@ -14,7 +14,7 @@ use Rattle.records.specs.declared.Circuit.{Circuit}
 use Rattle.method.specs.Fibres.{floor, inLayer, layer, layers, runs}
 use Rattle.method.specs.Line.{Fibre}
 use Rattle.method.specs.Sheet.{at, most, need}
-use Rattle.strands.specs.Layers.{reaches, layerBy, layersBy}
+use Rattle.strands.specs.inner.Layers.{reaches, layerBy, layersBy}
 
 -- runs of the same links are the same
 runs-same : (h : ℕ) (p q : ℕ → Bool) (i k : ℕ) → ((x : ℕ) → i ≤ x → x < i + k → p x ≡ q x) → runs h p i k ≡ runs h q i k

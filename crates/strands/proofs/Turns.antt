@@ -12,7 +12,7 @@ use Rattle.basics.proofs.Bools.{by-le}
 use Rattle.method.specs.Sheet.{at}
 use Rattle.scans.specs.Scans.{within, cellWithin}
 use Rattle.rows.proofs.ShownLaws.{links-sought}
-use Rattle.strands.specs.Layers.{reaches}
+use Rattle.strands.specs.inner.Layers.{reaches}
 
 -- one more link of a sum
 pub sum-more : (f : ℕ → ℕ) (i : ℕ) → sum f (i + 1) ≡ f (i + 1) + sum f i

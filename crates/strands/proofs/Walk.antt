@@ -12,11 +12,11 @@ use Rattle.basics.proofs.Searches.{seek-ge, seek-hit, seek-le}
 use Rattle.method.specs.Fibres.{runs}
 use Rattle.method.specs.Line.{Fibre}
 use Rattle.method.proofs.Runs.{runs-skip, runs-take}
-use Rattle.strands.specs.Layers.{layerBy, layersBy}
+use Rattle.strands.specs.inner.Layers.{layerBy, layersBy}
 
 module _ (h : ℕ) (p : ℕ → Bool) where
   -- links that do not pass may be left out
-  pub runs-jump : (i k : ℕ) → runs h p i k ≡ runs h p (seek p i k) (i + k - seek p i k)
+  runs-jump : (i k : ℕ) → runs h p i k ≡ runs h p (seek p i k) (i + k - seek p i k)
   unfolding seek
   runs-jump i zero = let e : i + 0 - i ≡ 0 = omega arith in rw e
   runs-jump i (suc k) =
@@ -82,5 +82,5 @@ module _ (f : ℕ → ℕ) (n top : ℕ) where
       (λ e. omega (arith, layers-grow h k (omega arith), length-append (layersBy f n top k) (layerBy f n top (suc k))))
 
   -- as many runs more as the layer has
-  pub length-more : (h : ℕ) → length (layersBy f n top (h + 1)) ≡ length (layersBy f n top h) + length (layerBy f n top (h + 1))
-  length-more h = ap length (layers-more h) ∙ length-append (layersBy f n top h) (layerBy f n top (h + 1))
+  pub length-layers : (h : ℕ) → length (layersBy f n top (h + 1)) ≡ length (layersBy f n top h) + length (layerBy f n top (h + 1))
+  length-layers h = ap length (layers-more h) ∙ length-append (layersBy f n top h) (layerBy f n top (h + 1))

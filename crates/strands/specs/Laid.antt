@@ -1,31 +1,28 @@
--- What phase two leaves. What a reader must believe.
+-- What phase two asks and what it leaves. A contract between crates.
 -- Assumes nothing.
-use Prim.Native.Nat.{ℕ, _*_}
+use Prim.Native.Nat.{ℕ, _+_, _*_, _≤_}
 use mathlib.Core.Path.{_≡_}
-use mathlib.Core.List.{List, _++_}
-use lib.ListN.{length, drop}
+use mathlib.Core.List.{List}
+use lib.ListN.{length}
 use Rattle.records.specs.Records.{circuitsIn}
-use Rattle.records.specs.declared.Circuit.{Circuit}
-use Rattle.method.specs.Fibres.{assignments, fibres, floor}
-use Rattle.method.specs.Line.{total}
-use Rattle.strands.specs.declared.Counts.{Counts}
-use Rattle.strands.specs.Lists.{fibreRecords, assignmentRecords}
+use Rattle.method.specs.Fibres.{floor, plan}
+use Rattle.method.specs.Sheet.{most}
+use Rattle.register.specs.declared.Counts.{Counts}
+use Rattle.register.specs.Areas.{Areas}
+use Rattle.register.specs.Registered.{Registered}
+use Rattle.rows.specs.Accepted.{Accepted}
+use Rattle.rows.specs.Filled.{Filled}
 
--- the three numbers: how many fibres, their length, the floor
-unfoldable pub countsOf : ℕ → ℕ → List Circuit → Counts
-countsOf n w cs = record { fibres = length (fibres n w cs); total = total (fibres n w cs); floor = floor n w cs }
+-- an accepted file and what phase one made of it, with M as `top`; room for a pair and an assignment for each circuit; and fibre numbers of two bytes
+pub record Ready (n w m from top : ℕ) (s : List ℕ) (lent : Areas) : Type 0 where
+  pub accepted : Accepted n w m s
+  pub filled : Filled n w m s (lent .work)
+  pub top-is : top ≡ most n w (circuitsIn m s)
+  pub fibre-room : 16 * m ≤ length (lent .fibres)
+  pub assign-room : 8 * m ≤ length (lent .assigns)
+  pub number-room : from + 2 * m ≤ 65535
 
--- the fibre list: records at the start, and the rest as it was
-unfoldable pub fibreList : ℕ → ℕ → ℕ → List Circuit → List ℕ → List ℕ
-fibreList n w from cs old = fibreRecords from (fibres n w cs) ++ drop (8 * length (fibres n w cs)) old
-
--- the assignment list: records at the start, and the rest as it was
-unfoldable pub assignmentList : ℕ → ℕ → ℕ → List Circuit → List ℕ → List ℕ
-assignmentList n w from cs old = assignmentRecords from cs (assignments n w cs) ++ drop (8 * length cs) old
-
--- the answer and the two lists; of the work area only the length, since its cells are used up
-pub record Laid (n w m from : ℕ) (s : List ℕ) (counts : Counts) (fibres₀ fibres₁ assigns₀ assigns₁ work₀ work₁ : List ℕ) : Type 0 where
-  pub counted : counts ≡ countsOf n w (circuitsIn m s)
-  pub listed : fibres₁ ≡ fibreList n w from (circuitsIn m s) fibres₀
-  pub assigned : assigns₁ ≡ assignmentList n w from (circuitsIn m s) assigns₀
-  pub sized : length work₁ ≡ length work₀
+-- the lists hold the method's plan, numbered after `from`; of the work area only the length is told, since its cells are used up
+pub record Laid (n w m from : ℕ) (s : List ℕ) (before after : Areas) (counts : Counts) : Type 0 where
+  pub registered : Registered from (floor n w (circuitsIn m s)) (circuitsIn m s) (plan n w (circuitsIn m s)) (before .fibres) (after .fibres) (before .assigns) (after .assigns) counts
+  pub sized : length (after .work) ≡ length (before .work)

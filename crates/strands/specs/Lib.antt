@@ -1,4 +1,2 @@
-pub mod Lists
-pub mod Area
 pub mod Laid
-pub mod Layers
+pub mod inner

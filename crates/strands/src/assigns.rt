@@ -1,17 +1,14 @@
 // The assignment list.
+use crate::Job;
 ghost use mathlib.Core.Path.{_≡_};
-ghost use mathlib.Core.List.{_++_};
 ghost use Prim.Native.Nat.{_+_, _*_, _-_, _≤_, _<_};
-ghost use lib.Dec.{leb};
-ghost use lib.ListN.{length, getD, drop};
+ghost use lib.ListN.{length, getD};
 ghost use Rattle.basics.specs.Tools.{seek};
 ghost use Rattle.records.specs.Bytes.{cellsOf};
-ghost use Rattle.records.specs.Records.{circuitsIn, fibreOf, putRecord, recordAt};
+ghost use Rattle.records.specs.Records.{circuitsIn};
 ghost use Rattle.method.specs.Fibres.{assignments};
-ghost use Rattle.method.specs.Line.{circuit};
-ghost use Rattle.rows.specs.Accepted.{Accepted};
-ghost use Rattle.strands.specs.Lists.{assignmentRecord, assignmentRecords};
-ghost use Rattle.strands.specs.Area.{Marked, Strung, givenIn};
+ghost use Rattle.register.specs.Lists.{assignmentList};
+ghost use Rattle.strands.specs.inner.Area.{AssignRoom, HasPairs, PlacedAt, Sources, pairReaches, putAssignment};
 
 // A fibre, as counted in the plan, and a wavelength.
 struct Place {
@@ -21,8 +18,8 @@ struct Place {
 
 // The first pair from pair `start` on whose fibres reach link x, or `pairs`.
 fn pair_over(fibres: &[u8], start: usize, pairs: usize, x: u16) -> usize
-    requires { ⌜ (16 * pairs ≤ length (now fibres)) × (pairs ≤ 65535) × (start ≤ pairs) ⌝ }
-    ensures { λ r. ⌜ r ≡ seek (λ i. leb x ((fibreOf (recordAt (now (fibres .entry)) (2 * i))) .last)) start (pairs - start) ⌝ }
+    requires { ⌜ HasPairs pairs (now fibres) × (start ≤ pairs) ⌝ }
+    ensures { λ r. ⌜ r ≡ seek (pairReaches (now (fibres .entry)) x) start (pairs - start) ⌝ }
 {
     let mut i = start;
     while i < pairs {
@@ -44,59 +41,41 @@ fn cell_at(work: &[u8], k: usize) -> u16
 }
 
 // The fibre, as counted in the plan, and the wavelength of circuit j.
-fn place_of(
-    circuits: &[u8],
-    work: &[u8],
-    fibres: &[u8],
-    n: usize,
-    w: usize,
-    m: usize,
-    pairs: usize,
-    j: usize,
-) -> Place
-    requires { ⌜ Accepted n w m (now circuits) ⌝ }
-    requires { ⌜ Marked n w m (now circuits) (now work) ⌝ }
-    requires { ⌜ Strung n w m pairs (now circuits) (now fibres) ⌝ }
-    requires { ⌜ j < m ⌝ }
-    ensures { λ r. ⌜ (r .fibre ≡ (givenIn n w m (now (circuits .entry)) j) .fibre) × (r .wavelength ≡ (givenIn n w m (now (circuits .entry)) j) .wavelength)
-        × (r .fibre ≤ 2 * m) × (r .wavelength ≤ 65535) ⌝ }
+fn place_of(job: Job, pairs: usize, j: usize, circuits: &[u8], work: &[u8], fibres: &[u8]) -> Place
+    requires { ⌜ Sources (job .links) (job .wavelengths) (job .circuits) pairs (now circuits) (now work) (now fibres) × (j < job .circuits) ⌝ }
+    ensures { λ r. ⌜ PlacedAt (job .links) (job .wavelengths) (job .circuits) (now (circuits .entry)) j (r .fibre) (r .wavelength) ⌝ }
 {
     let c = records::circuit_at(circuits, j);
-    let v = records::numbers::index(cell_at(work, 2 * n + j));
+    let v = records::numbers::index(cell_at(work, 2 * job.links + j));
     let row = v / 2;
-    let q = (row - 1) / w;
-    let start = records::numbers::index(cell_at(work, 2 * n + m + q));
+    let q = (row - 1) / job.wavelengths;
+    let start = records::numbers::index(cell_at(work, 2 * job.links + job.circuits + q));
     let pair = pair_over(fibres, start, pairs, c.first);
     Place {
         fibre: 2 * pair + 1 + v % 2,
-        wavelength: row - q * w,
+        wavelength: row - q * job.wavelengths,
     }
 }
 
 // Writes the record of what circuit j is given.
 fn write_assignment(
+    job: Job,
+    pairs: usize,
+    j: usize,
     circuits: &[u8],
     work: &[u8],
     fibres: &[u8],
     out: &mut [u8],
-    n: usize,
-    w: usize,
-    m: usize,
-    pairs: usize,
-    from: usize,
-    j: usize,
 )
-    requires { ⌜ Accepted n w m (now circuits) ⌝ }
-    requires { ⌜ Marked n w m (now circuits) (now work) ⌝ }
-    requires { ⌜ Strung n w m pairs (now circuits) (now fibres) ⌝ }
-    requires { ⌜ (j < m) × (8 * m ≤ length (now out)) × (from + 2 * m ≤ 65535) ⌝ }
-    ensures { λ _. ⌜ now (out .exit) ≡ putRecord (now (out .entry)) j (assignmentRecord from (circuit (circuitsIn m (now (circuits .entry))) j) (givenIn n w m (now (circuits .entry)) j)) ⌝ }
+    requires { ⌜ Sources (job .links) (job .wavelengths) (job .circuits) pairs (now circuits) (now work) (now fibres) × (j < job .circuits) ⌝ }
+    requires { ⌜ AssignRoom (job .circuits) (job .from) (now out) ⌝ }
+    ensures { λ _. ⌜ now (out .exit) ≡ putAssignment (job .links) (job .wavelengths) (job .circuits) (job .from) (now (circuits .entry)) j (now (out .entry)) ⌝ }
 {
     let c = records::circuit_at(circuits, j);
-    let p = place_of(circuits, work, fibres, n, w, m, pairs, j);
+    let p = place_of(job, pairs, j, circuits, work, fibres);
     let a = records::AssignmentRecord {
         circuit: c.number,
-        fibre: (from + p.fibre) as u16,
+        fibre: (job.from + p.fibre) as u16,
         wavelength: p.wavelength as u16,
     };
     records::put_assignment(out, j, a);
@@ -104,25 +83,20 @@ fn write_assignment(
 
 // Writes the whole assignment list, in the order of the file.
 pub fn write_assignments(
+    job: Job,
+    pairs: usize,
     circuits: &[u8],
     work: &[u8],
     fibres: &[u8],
     out: &mut [u8],
-    n: usize,
-    w: usize,
-    m: usize,
-    pairs: usize,
-    from: usize,
 )
-    requires { ⌜ Accepted n w m (now circuits) ⌝ }
-    requires { ⌜ Marked n w m (now circuits) (now work) ⌝ }
-    requires { ⌜ Strung n w m pairs (now circuits) (now fibres) ⌝ }
-    requires { ⌜ (8 * m ≤ length (now out)) × (from + 2 * m ≤ 65535) ⌝ }
-    ensures { λ _. ⌜ now (out .exit) ≡ assignmentRecords from (circuitsIn m (now (circuits .entry))) (assignments n w (circuitsIn m (now (circuits .entry)))) ++ drop (8 * m) (now (out .entry)) ⌝ }
+    requires { ⌜ Sources (job .links) (job .wavelengths) (job .circuits) pairs (now circuits) (now work) (now fibres) ⌝ }
+    requires { ⌜ AssignRoom (job .circuits) (job .from) (now out) ⌝ }
+    ensures { λ _. ⌜ now (out .exit) ≡ assignmentList (job .from) (circuitsIn (job .circuits) (now (circuits .entry))) (assignments (job .links) (job .wavelengths) (circuitsIn (job .circuits) (now (circuits .entry)))) (now (out .entry)) ⌝ }
 {
     let mut j = 0;
-    while j < m {
-        write_assignment(circuits, work, fibres, out, n, w, m, pairs, from, j);
+    while j < job.circuits {
+        write_assignment(job, pairs, j, circuits, work, fibres, out);
         j += 1;
     }
 }

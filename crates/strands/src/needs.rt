@@ -7,7 +7,7 @@ ghost use lib.ListN.{length};
 ghost use Rattle.basics.specs.Tools.{seek, sum};
 ghost use Rattle.records.specs.Bytes.{cellsOf};
 ghost use Rattle.method.specs.Sheet.{at};
-ghost use Rattle.strands.specs.Layers.{reaches};
+ghost use Rattle.strands.specs.inner.Layers.{reaches};
 
 // c(i).
 fn need_at(work: &[u8], i: usize) -> usize

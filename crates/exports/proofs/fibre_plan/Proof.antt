@@ -5,7 +5,7 @@ use Rattle.exports.proofs.fibre_plan.Statement.{statement}
 use Rattle.exports.proofs.fibre_plan.Tie as tie
 
 returns : tie.Need-returns
-returns c = exported _ _ _ _ _ _ _ _ _ _ _ (c .flattened .ensures) (c .before .before .before .before .before .before .before .plan .ensures)
+returns c = exported _ _ _ _ _ _ (c .flattened .ensures) (c .before .before .before .before .before .before .before .plan .ensures)
 
 pub fibre-plan-spec : {M : Type 1} → statement M
 fibre-plan-spec =

@@ -7,7 +7,8 @@ use native.Mathlib.Omega.{arith}
 use lib.ListN.{length}
 use Rattle.records.specs.Bytes.{cellsOf}
 use Rattle.records.proofs.CellLaws.{cell-is, length-cellsOf, stored}
-use Rattle.queue.proofs.Closing.{Closing, closing-start, closing-skip, closing-turn, closing-done}
+use Rattle.queue.specs.inner.ClosedUp.{Closing}
+use Rattle.queue.proofs.Closing.{closing-start, closing-skip, closing-turn, closing-done}
 use Rattle.queue.proofs.close_up.Statement.{statement}
 use Rattle.queue.proofs.close_up.Tie as tie
 

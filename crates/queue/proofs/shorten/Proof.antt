@@ -4,8 +4,9 @@ use Prim.Native.Nat.{_-_}
 use native.Mathlib.Omega.{arith}
 use Rattle.records.specs.Bytes.{cellsOf}
 use Rattle.records.proofs.Encode.{cells-fit}
+use Rattle.queue.specs.inner.ClosedUp.{anyLink}
 use Rattle.queue.proofs.Columns.{found-within}
-use Rattle.queue.proofs.Shortening.{closed-keeps, later-keeps, anyLink, none-before}
+use Rattle.queue.proofs.Shortening.{closed-keeps, later-keeps, none-before}
 use Rattle.queue.proofs.shorten.Statement.{statement}
 use Rattle.queue.proofs.shorten.Tie as tie
 

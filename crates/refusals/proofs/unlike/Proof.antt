@@ -13,7 +13,7 @@ use native.Mathlib.Nat.{mod-lt}
 use Rattle.records.specs.Records.{numberIn}
 use Rattle.basics.proofs.Bools.{by-eq, clash}
 use Rattle.basics.proofs.Searches.{any-hit, any-none, any-true}
-use Rattle.refusals.specs.declared.Test.the-variants.{Checked, Refused}
+use Rattle.refusals.specs.declared.Verdict.the-variants.{Checked, Refused}
 use Rattle.refusals.specs.Table.{hasNumber, repeats, row7, tested}
 use Rattle.refusals.proofs.FirstLaws.{number-is, none-more, none-further, refused-at, checked-all}
 use Rattle.refusals.proofs.unlike.Statement.{statement}

@@ -30,7 +30,7 @@ last-reds-requires c κs =
     let y = counted (a .n) (a .m) (a .w) (circuitsIn (a .m) (a .circuits .now)) (zero .last .0) _ _ (zero .kept .0 ∙ start .pre .1) z (count-needs .kept .1 .1 .0) (count-needs .ensures .1) refl in
     let e = c .before .index .ensures .0 ∙ count-needs .ensures .0 in
     let f = top-low (a .n) (a .w) (a .m) _ (a .circuits .now) (start .pre .0) e in
-    (front-long (a .n) (a .m) (a .w) _ _ y, start .pre .0 .line, omega arith, front-low (a .n) (a .m) (a .w) _ _ _ y e)
+    (front-long (a .n) (a .m) (a .w) _ _ y, start .pre .0 .file .line, omega arith, front-low (a .n) (a .m) (a .w) _ _ _ y e)
 
 returns : tie.Need-returns
 returns c =
@@ -44,7 +44,7 @@ returns c =
     let e = c .before .before .before .before .index .ensures .0 ∙ count-needs .ensures .0 in
     let f = top-low (a .n) (a .w) (a .m) _ (a .circuits .now) (start .pre .0) e in
     let r = ready (a .n) (a .m) (a .w) _ _ _ _ _ (sym (length-circuitsIn (a .m) (a .circuits .now))) y e f (last-reds .kept .0) (last-reds .ensures .1) (last-reds .ensures .2) refl in
-    (r .0, e, r .1)
+    record { room = r .0; top = e; sheet = r .1 }
 
 pub prepare-spec : {M : Type 1} → statement M
 prepare-spec =

@@ -6,7 +6,8 @@ use mathlib.Core.Path.{_≡_, _∙_, sym}
 use native.Mathlib.Omega.{arith}
 use Rattle.basics.proofs.Searches.{seek-onward, seek-over}
 use Rattle.records.specs.Bytes.{cellsOf}
-use Rattle.scans.specs.Scans.{CameTo, cellWithin}
+use Rattle.scans.specs.inner.Chunks.{CameTo}
+use Rattle.scans.specs.Scans.{cellWithin}
 use Rattle.scans.proofs.ScanLaws.{came-here, read-within, within-above, within-below, within-hit}
 use Rattle.scans.proofs.first_within.Statement.{statement}
 use Rattle.scans.proofs.first_within.Tie as tie

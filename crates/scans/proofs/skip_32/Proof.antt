@@ -4,7 +4,8 @@ use Prim.Native.Nat.{_-_}
 use mathlib.Core.Path.{refl}
 use native.Mathlib.Omega.{arith}
 use Rattle.records.specs.Bytes.{cellsOf}
-use Rattle.scans.specs.Scans.{CameTo, bothWithin}
+use Rattle.scans.specs.inner.Chunks.{CameTo}
+use Rattle.scans.specs.Scans.{bothWithin}
 use Rattle.scans.proofs.ScanLaws.{came-skip}
 use Rattle.scans.proofs.skip_32.Statement.{statement}
 use Rattle.scans.proofs.skip_32.Tie as tie

@@ -2,7 +2,7 @@
 use borrow.Author.Needs.{needs}
 use native.Mathlib.Omega.{arith}
 use Rattle.sheet_text.specs.Text.{refusalLine}
-use Rattle.sheet_text.proofs.Lengths.{length-twenty}
+use Rattle.text.proofs.Lengths.{length-twenty}
 use Rattle.sheet_text.proofs.write_refusal.Statement.{statement}
 use Rattle.sheet_text.proofs.write_refusal.Tie as tie
 

@@ -4,8 +4,8 @@ use Prim.Native.Nat.{_+_}
 use mathlib.Core.List.{_++_}
 use native.Mathlib.Omega.{arith}
 use Rattle.sheet_text.specs.Text.{totalLine, fibreLines, circuitLines, sheetText}
-use Rattle.sheet_text.proofs.Lengths.{length-twenty}
-use Rattle.sheet_text.proofs.Writing.{then-part}
+use Rattle.text.proofs.Lengths.{length-twenty}
+use Rattle.text.proofs.Writing.{then-part}
 use Rattle.sheet_text.proofs.write_sheet.Statement.{statement}
 use Rattle.sheet_text.proofs.write_sheet.Tie as tie
 

@@ -6,7 +6,7 @@ use native.Mathlib.Omega.{arith}
 use lib.ListN.{length}
 use borrow.Author.Tests.{not-true, not-false}
 use Rattle.entry_text.specs.Entries.{headerFrom}
-use Rattle.entry_text.specs.Told.{opening}
+use Rattle.entry_text.specs.inner.Told.{opening}
 use Rattle.entry_text.proofs.Headings.{header-told}
 use Rattle.entry_text.proofs.Readings.{header-over, header-idle}
 use Rattle.entry_text.proofs.lines.find_header.Statement.{statement}

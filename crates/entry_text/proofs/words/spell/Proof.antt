@@ -4,7 +4,7 @@ use Prim.Native.Nat.{_-_, _<_, _≤_}
 use mathlib.Core.Path.{_≡_, refl, ap, _∙_, sym}
 use native.Mathlib.Omega.{arith}
 use Rattle.entry_text.specs.Entries.{spelt, below}
-use Rattle.entry_text.specs.Told.{numeralOf}
+use Rattle.entry_text.specs.inner.Told.{numeralOf}
 use Rattle.entry_text.proofs.Digits.{too-low, too-high, digit-turn, grown, told-over}
 use Rattle.entry_text.proofs.words.spell.Statement.{statement}
 use Rattle.entry_text.proofs.words.spell.Tie as tie

@@ -6,7 +6,7 @@ use Rattle.entry_text.proofs.words.word_number.Tie as tie
 
 returns : tie.Need-returns
 unfolding wordNumber
-returns c = rw (← c .before .before .word-from .ensures .0, ← c .before .word-to .ensures .0) (c .number-in .ensures)
+returns c = rw (← c .before .before .word-from .ensures .0, ← c .before .word-to .ensures .0) (c .numeral-in .ensures)
 
 pub word-number-spec : {M : Type 1} → statement M
 word-number-spec =

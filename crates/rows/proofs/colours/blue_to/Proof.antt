@@ -5,7 +5,7 @@ use mathlib.Core.Path.{_≡_}
 use native.Mathlib.Omega.{arith}
 use Rattle.method.specs.Sheet.{at, blue}
 use Rattle.records.specs.Bytes.{cellsOf}
-use Rattle.rows.specs.Colours.{shown}
+use Rattle.rows.specs.inner.Colours.{shown}
 use Rattle.rows.proofs.ShownLaws.{before-blue, before-not, at-none, blues-more}
 use Rattle.rows.proofs.colours.blue_to.Statement.{statement}
 use Rattle.rows.proofs.colours.blue_to.Tie as tie

@@ -6,8 +6,9 @@ use native.Mathlib.Omega.{arith}
 use lib.ListN.{length}
 use Rattle.records.specs.Bytes.{cellsOf}
 use Rattle.records.proofs.CellLaws.{length-cellsOf, stored}
-use Rattle.rows.proofs.Written.{Written, written-start, written-turn}
-use Rattle.rows.proofs.ColourLaws.{oneRow, paint-done}
+use Rattle.rows.specs.inner.Loops.{Written, oneRow}
+use Rattle.rows.proofs.Written.{written-start, written-turn}
+use Rattle.rows.proofs.ColourLaws.{paint-done}
 use Rattle.rows.proofs.colours.paint.Statement.{statement}
 use Rattle.rows.proofs.colours.paint.Tie as tie
 

@@ -5,7 +5,7 @@ use native.Mathlib.Omega.{arith}
 use Rattle.method.specs.Sheet.{at}
 use Rattle.method.proofs.Colours.{from-pos}
 use Rattle.records.specs.Bytes.{cellsOf}
-use Rattle.rows.specs.Colours.{shown}
+use Rattle.rows.specs.inner.Colours.{shown}
 use Rattle.rows.proofs.ShownLaws.{length-shown, links-low, sought-in, shut-sought, unblue-sought, past-in, around}
 use Rattle.rows.proofs.colours.run_at.Statement.{statement}
 use Rattle.rows.proofs.colours.run_at.Tie as tie
@@ -57,7 +57,7 @@ returns c =
     let z = past-in (a .n) (a .l) (f .result + 1) (shown (a .n) (a .k) (cellsOf b)) (omega arith) past in
     let z₀ = z .0 in
     let z₁ = z .1 in
-    around (a .n) (a .l) _ _ _ _ (length-shown (a .n) (a .k) (cellsOf b)) (omega arith) (start .pre .5) past (c .before .blue-to .ensures)
+    around (a .n) (a .l) _ _ _ _ (length-shown (a .n) (a .k) (cellsOf b)) (omega arith) (start .pre .2 .3) past (c .before .blue-to .ensures)
     (unblue-sought (a .n) (a .k) (f .result + 1) _ (cellsOf b) (omega arith) low (omega arith) (omega arith) (c .first-within2 .ensures))
 
 pub run-at-spec : {M : Type 1} → statement M

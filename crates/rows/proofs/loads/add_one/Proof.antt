@@ -6,8 +6,9 @@ use native.Mathlib.Omega.{arith}
 use lib.ListN.{length}
 use Rattle.records.specs.Bytes.{cellsOf}
 use Rattle.records.proofs.CellLaws.{length-cellsOf, stored}
-use Rattle.rows.proofs.Written.{Written, written-start, written-turn, read}
-use Rattle.rows.proofs.LoadLaws.{below-at, upAt, one-up}
+use Rattle.rows.specs.inner.Loops.{Written, upAt}
+use Rattle.rows.proofs.Written.{written-start, written-turn, read}
+use Rattle.rows.proofs.LoadLaws.{below-at, one-up}
 use Rattle.rows.proofs.loads.add_one.Statement.{statement}
 use Rattle.rows.proofs.loads.add_one.Tie as tie
 

@@ -11,7 +11,8 @@ use Rattle.records.specs.Records.{circuitsIn}
 use Rattle.records.specs.declared.Circuit.{Circuit}
 use Rattle.records.proofs.Files.{length-circuitsIn}
 use Rattle.method.proofs.Circuits.{circuit-in, lies-at}
-use Rattle.rows.proofs.LoadLaws.{loadTo, load-none, load-more, load-all, load-below}
+use Rattle.rows.specs.inner.Loops.{loadTo}
+use Rattle.rows.proofs.LoadLaws.{load-none, load-more, load-all, load-below}
 use Rattle.rows.proofs.loads.count_loads.Statement.{statement}
 use Rattle.rows.proofs.loads.count_loads.Tie as tie
 
@@ -35,7 +36,7 @@ add-one-requires c κs =
     let e = circuit-at .ensures in
     let p = ap (λ (c : Circuit). c .first) e in
     let q = ap (λ (c : Circuit). c .last) e in
-    let y = lies-at (a .n) (a .m) (a .circuits .now) (l .j) (start .pre .1 .0) (omega arith) in
+    let y = lies-at (a .n) (a .m) (a .circuits .now) (l .j) (start .pre .0 .lies) (omega arith) in
     (omega arith, omega arith, omega arith, omega arith, omega arith, load-below _ _ (l .j) _ _ (l .inv .2) (omega arith))
 
 loop-again : tie.Need-loop-again Inv-loop μ-loop

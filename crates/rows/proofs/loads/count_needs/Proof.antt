@@ -6,8 +6,8 @@ use Rattle.rows.proofs.LoadLaws.{needs-are, most-is, load-bound}
 use Rattle.rows.proofs.loads.count_needs.Statement.{statement}
 use Rattle.rows.proofs.loads.count_needs.Tie as tie
 
-count-layers-requires : tie.Need-count-layers-requires
-count-layers-requires c κs =
+loads-to-needs-requires : tie.Need-loads-to-needs-requires
+loads-to-needs-requires c κs =
     let start = c .before .before .before .before .before .before .before in
     let count-loads = c .before .before .before .count-loads in
     let a = start .args in
@@ -25,12 +25,12 @@ returns : tie.Need-returns
 returns c =
     let start = c .before .before .before .before .before .before .before .before .before .before in
     let count-loads = c .before .before .before .before .before .before .count-loads in
-    let count-layers = c .before .before .count-layers in
+    let loads-to-needs = c .before .before .loads-to-needs in
     let a = start .args in (
-      most-is _ (a .n) (a .w) _ _ (count-loads .ensures) (count-layers .ensures .0),
-      needs-are _ (a .n) (a .w) _ _ (count-loads .ensures) (count-layers .ensures .1),
+      most-is _ (a .n) (a .w) _ _ (count-loads .ensures) (loads-to-needs .ensures .0),
+      needs-are _ (a .n) (a .w) _ _ (count-loads .ensures) (loads-to-needs .ensures .1),
     )
 
 pub count-needs-spec : {M : Type 1} → statement M
 count-needs-spec =
-    tie.close (tie.spec (λ c κs. search needs) count-layers-requires (λ c. search needs) returns)
+    tie.close (tie.spec (λ c κs. search needs) loads-to-needs-requires (λ c. search needs) returns)

@@ -6,8 +6,10 @@ use native.Mathlib.Omega.{arith}
 use lib.ListN.{length}
 use Rattle.records.specs.Bytes.{cellsOf}
 use Rattle.records.proofs.CellLaws.{length-cellsOf}
+use Rattle.rows.specs.inner.Loads.{redAt}
+use Rattle.rows.specs.inner.Loops.{Reddening}
 use Rattle.rows.proofs.Written.{written-start}
-use Rattle.rows.proofs.RedLaws.{redAt, red-low, Reddening, red-need, red-need-low, red-turn, red-done}
+use Rattle.rows.proofs.RedLaws.{red-low, red-need, red-need-low, red-turn, red-done}
 use Rattle.rows.proofs.loads.last_reds.Statement.{statement}
 use Rattle.rows.proofs.loads.last_reds.Tie as tie
 

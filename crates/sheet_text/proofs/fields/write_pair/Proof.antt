@@ -4,7 +4,8 @@ use Prim.Native.Nat.{_+_}
 use mathlib.Core.List.{_++_, _∷_, []}
 use native.Mathlib.Omega.{arith}
 use Rattle.sheet_text.specs.Text.{fields}
-use Rattle.sheet_text.proofs.Writing.{then-part, fields-append, by-name}
+use Rattle.sheet_text.proofs.Writing.{fields-append}
+use Rattle.text.proofs.Writing.{then-part, by-name}
 use Rattle.sheet_text.proofs.fields.write_pair.Statement.{statement}
 use Rattle.sheet_text.proofs.fields.write_pair.Tie as tie
 

@@ -6,7 +6,7 @@ use mathlib.Core.List.{_∷_, []}
 use native.Mathlib.Omega.{arith}
 use Rattle.sheet_text.specs.Text.{line, circuitLine}
 use Rattle.sheet_text.proofs.Lengths.{circuit-room}
-use Rattle.sheet_text.proofs.Writing.{by-name}
+use Rattle.text.proofs.Writing.{by-name}
 use Rattle.grid.proofs.FrequencyLaws.{frequency-size}
 use lib.IntN.{natAbs}
 use Rattle.grid.specs.Frequencies.{frequencyOf}

@@ -6,7 +6,8 @@ use mathlib.Core.List.{_++_, _∷_, []}
 use native.Mathlib.Omega.{arith}
 use lib.ListN.{length-set}
 use Rattle.sheet_text.specs.Text.{fields, line}
-use Rattle.sheet_text.proofs.Writing.{then-byte, then-part, by-name, line-of-both}
+use Rattle.sheet_text.proofs.Writing.{line-of-both}
+use Rattle.text.proofs.Writing.{then-byte, then-part, by-name}
 use Rattle.sheet_text.proofs.lines.write_four.Statement.{statement}
 use Rattle.sheet_text.proofs.lines.write_four.Tie as tie
 
@@ -21,7 +22,7 @@ returns c = let s = c .before .before .before .before .before .before .before .b
     let ys = s .args .z ∷ s .args .t ∷ [] in
     let p = c .before .before .before .before .before .before .write-pair in
     let q = c .before .before .write-pair2 in
-    let w = then-part (v ∷ []) (fields xs) b _ _ 1 (p .result) (refl, c .before .before .before .before .before .before .before .before .before .before .write-byte .ensures) (p .ensures .0, p .ensures .1) in
+    let w = then-part (v ∷ []) (fields xs) b _ _ 1 (p .result) (c .before .before .before .before .before .before .before .before .before .before .write-byte .ensures) (p .ensures .0, p .ensures .1) in
     let u = then-part (v ∷ fields xs) (fields ys) b _ _ (1 + p .result) (q .result) w (q .ensures .0, q .ensures .1) in
     let z = by-name ((v ∷ fields xs) ++ fields ys ++ (10 ∷ [])) (line v (xs ++ ys)) b _ (1 + p .result + q .result + 1) (line-of-both v xs ys)
     (then-byte ((v ∷ fields xs) ++ fields ys) 10 b _ (1 + p .result + q .result) u (search needs)) in

@@ -6,7 +6,8 @@ use mathlib.Core.List.{_++_, _∷_, []}
 use native.Mathlib.Omega.{arith}
 use lib.ListN.{length-set}
 use Rattle.sheet_text.specs.Text.{fields, line}
-use Rattle.sheet_text.proofs.Writing.{then-byte, then-part, by-name, line-is}
+use Rattle.sheet_text.proofs.Writing.{line-is}
+use Rattle.text.proofs.Writing.{then-byte, then-part, by-name}
 use Rattle.sheet_text.proofs.lines.write_two.Statement.{statement}
 use Rattle.sheet_text.proofs.lines.write_two.Tie as tie
 
@@ -20,7 +21,7 @@ returns c = let s = c .before .before .before .before .before .before .before .b
     let x = s .args .x in
     let y = s .args .y in
     let p = c .before .before .write-pair in
-    let w = then-part (v ∷ []) (fields (x ∷ y ∷ [])) b _ _ 1 (p .result) (refl, c .before .before .before .before .before .before .write-byte .ensures) (p .ensures .0, p .ensures .1) in
+    let w = then-part (v ∷ []) (fields (x ∷ y ∷ [])) b _ _ 1 (p .result) (c .before .before .before .before .before .before .write-byte .ensures) (p .ensures .0, p .ensures .1) in
     let z = by-name ((v ∷ fields (x ∷ y ∷ [])) ++ (10 ∷ [])) (line v (x ∷ y ∷ [])) b _ (1 + p .result + 1) (line-is v (x ∷ y ∷ []))
     (then-byte (v ∷ fields (x ∷ y ∷ [])) 10 b _ (1 + p .result) w (search needs)) in
     (z .0, z .1, omega arith)

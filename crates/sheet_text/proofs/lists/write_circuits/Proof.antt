@@ -6,7 +6,8 @@ use mathlib.Core.List.{_++_}
 use native.Mathlib.Omega.{arith}
 use lib.ListN.{length, drop}
 use Rattle.sheet_text.specs.Text.{circuitLine, circuitLines}
-use Rattle.sheet_text.proofs.Writing.{then-part, by-name, circuit-more}
+use Rattle.sheet_text.proofs.Writing.{circuit-more}
+use Rattle.text.proofs.Writing.{then-part, by-name}
 use Rattle.sheet_text.proofs.lists.write_circuits.Statement.{statement}
 use Rattle.sheet_text.proofs.lists.write_circuits.Tie as tie
 

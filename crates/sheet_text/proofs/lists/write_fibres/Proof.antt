@@ -6,7 +6,8 @@ use mathlib.Core.List.{_++_}
 use native.Mathlib.Omega.{arith}
 use lib.ListN.{length, drop}
 use Rattle.sheet_text.specs.Text.{fibreLine, fibreLines}
-use Rattle.sheet_text.proofs.Writing.{then-part, by-name, fibre-more}
+use Rattle.sheet_text.proofs.Writing.{fibre-more}
+use Rattle.text.proofs.Writing.{then-part, by-name}
 use Rattle.sheet_text.proofs.lists.write_fibres.Statement.{statement}
 use Rattle.sheet_text.proofs.lists.write_fibres.Tie as tie
 

@@ -1,7 +1,7 @@
 -- `strands::fibres::put_one` meets its contract: the record has the fibre's number, span and layer. Assumes nothing.
 use borrow.Author.Needs.{needs}
-use Rattle.strands.specs.Layers.{putFibre}
-use Rattle.strands.specs.Lists.{fibreRecord}
+use Rattle.strands.specs.inner.Pairs.{putFibre}
+use Rattle.register.specs.Lists.{fibreRecord}
 use Rattle.strands.proofs.fibres.put_one.Statement.{statement}
 use Rattle.strands.proofs.fibres.put_one.Tie as tie
 

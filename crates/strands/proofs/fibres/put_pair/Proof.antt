@@ -2,7 +2,7 @@
 use Prim.Native.Nat.{_+_}
 use mathlib.Core.Path.{ap, _∙_}
 use borrow.Author.Needs.{needs}
-use Rattle.strands.specs.Layers.{putFibre, putPair}
+use Rattle.strands.specs.inner.Pairs.{putFibre, putPair}
 use Rattle.strands.proofs.fibres.put_pair.Statement.{statement}
 use Rattle.strands.proofs.fibres.put_pair.Tie as tie
 

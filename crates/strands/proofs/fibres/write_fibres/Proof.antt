@@ -1,56 +1,51 @@
 -- `strands::fibres::write_fibres` meets its contract: the loop stands as `Layering` says, and its turns are the laws of proofs/Layering.antt. Assumes nothing.
 use borrow.Author.Needs.{needs}
-use Prim.Native.Nat.{_-_}
+use Prim.Native.Nat.{_-_, _≤_}
 use native.Mathlib.Omega.{arith}
-use Rattle.records.specs.Bytes.{cellsOf}
-use Rattle.method.specs.Sheet.{at}
-use Rattle.strands.proofs.Walk.{layers-grow}
-use Rattle.strands.proofs.Layering.{layering-start, layering-turn, layering-end, layer-room, Layering}
+use lib.ListN.{length}
+use Rattle.strands.specs.inner.Layers.{layersIn}
+use Rattle.strands.specs.inner.Pairs.{Layering}
+use Rattle.strands.proofs.Layering.{layering-start, layering-few, layer-room, layering-turn, layering-end}
 use Rattle.strands.proofs.fibres.write_fibres.Statement.{statement}
 use Rattle.strands.proofs.fibres.write_fibres.Tie as tie
 
 abbrev Inv-loop : tie.InvT-loop
-Inv-loop work₀ n m top from out₀ h₀ many₀ work out h many = Layering n m top from work₀ out₀ work out h many
+Inv-loop work₀ n m top from out₀ h₀ pairs₀ work out h pairs = Layering n m top from work₀ out₀ work out h pairs
 
 abbrev μ-loop : tie.MeasureT-loop
-μ-loop work₀ n m top from out₀ h₀ many₀ work out h many = top - h
+μ-loop work₀ n m top from out₀ h₀ pairs₀ work out h pairs = top - h
+
+-- the start, from the loop
+abbrev start : tie.At-loop Inv-loop μ-loop → tie.Start Inv-loop μ-loop
+start c = c .before .before .before
+
+-- the pairs so far are no more than all
+few : (c : tie.At-loop Inv-loop μ-loop) → c .loop .pairs ≤ length (layersIn (start c .args .n) (start c .args .top) (start c .args .work .now))
+few c = layering-few (start c .pre .0) (c .loop .inv)
 
 loop-holds : tie.Need-loop-holds Inv-loop μ-loop
-loop-holds c = let a = c .before .before .args in layering-start (a .n) (a .m) (a .top) (a .from) (a .work .now) (a .out .now) (omega arith) (omega arith)
-
-mul-put : tie.Need-mul-put Inv-loop μ-loop
-mul-put c = omega arith
-
-add-put : tie.Need-add-put Inv-loop μ-loop
-add-put c = omega arith
-
-add-put-2 : tie.Need-add-put-2 Inv-loop μ-loop
-add-put-2 c = omega arith
+loop-holds c = layering-start (c .before .before .pre .0)
 
 cast-put : tie.Need-cast-put Inv-loop μ-loop
-cast-put c = let a = c .before .before .before .before .before .args in let l = c .before .before .loop in let k = l .inv .many-are in omega (arith, layers-grow (at (cellsOf (a .work .now))) (a .n) (a .top) (l .h) (a .top) (omega arith))
+cast-put c = omega (arith, few (c .before .before))
 
 put-requires : tie.Need-put-requires Inv-loop μ-loop
-put-requires c κs = let l = c .before .before .loop in let k = l .inv .long in omega arith
-
-add-h : tie.Need-add-h Inv-loop μ-loop
-add-h c = omega arith
+put-requires c κs = let k = c .before .before .loop .inv .long in omega arith
 
 mul-one-layer : tie.Need-mul-one-layer Inv-loop μ-loop
-mul-one-layer c = let a = c .before .before .before .before .before .before .before .before .before .args in let l = c .before .before .before .before .before .before .loop in let k = l .inv .many-are in omega (arith, layers-grow (at (cellsOf (a .work .now))) (a .n) (a .top) (l .h) (a .top) (omega arith))
+mul-one-layer c = omega (arith, few (c .before .before .before .before .before .before))
 
 one-layer-requires : tie.Need-one-layer-requires Inv-loop μ-loop
-one-layer-requires c κs = let st = c .before .before .before .before .before .before .before .before .before .before in let a = st .args in let l = c .before .before .before .before .before .before .before .loop in
-    let k = l .inv .long in
-    let k₁ = c .before .before .before .before .put .kept .0 in
-    let s = l .inv .sized in
-    let r = layer-room (a .n) (a .m) (a .top) (a .from) (a .work .now) (a .out .now) (omega arith) (omega arith) (l .work) (l .out) (l .h) (l .many) (l .inv) (omega arith) _ (c .before .before .before .before .put .ensures) in
-    ((omega arith, omega arith, omega arith, omega arith, omega arith), (omega arith, omega arith))
+one-layer-requires c κs = let l = c .before .before .before .before .before .before .before in let p = start l .pre in let o = c .before .before .before .before .put in
+    let k = l .loop .inv .long in
+    let k₁ = o .kept .0 in
+    let s = l .loop .inv .sized in
+    let r = layer-room (p .0) (l .loop .inv) (omega arith) (o .ensures) in
+    (record { cells = omega arith; line = omega arith; low = omega arith; high = omega arith; few = omega arith }, record { places = omega arith; numbers = omega arith })
 
 loop-again : tie.Need-loop-again Inv-loop μ-loop
-loop-again c = let st = c .before .before .before .before .before .before .before .before .before .before .before .before .before in let a = st .args in let l = c .before .before .before .before .before .before .before .before .before .before .loop in let o = c .before .before .one-layer in
-    layering-turn (a .n) (a .m) (a .top) (a .from) (a .work .now) (a .out .now) (omega arith) (omega arith) (l .work) (l .out) (l .h) (l .many) (l .inv) (omega arith) _ (c .before .before .before .before .before .before .before .put .ensures)
-    _ (o .result) (c .before .before .before .before .before .before .before .put .kept .0) (o .kept .1 .1 .1 .1 .1 .1 .0) (o .ensures .0) (o .ensures .1)
+loop-again c = let l = c .before .before .before .before .before .before .before .before .before .before in let p = c .before .before .before .before .before .before .before .put in let o = c .before .before .one-layer in
+    layering-turn (start l .pre .0) (l .loop .inv) (omega arith) (p .ensures) (p .kept .0) (o .kept .1 .1 .1 .1 .1 .1 .0) (o .ensures)
 
 same-length : tie.Need-same-length Inv-loop μ-loop
 same-length c = c .before .loop .inv .long
@@ -59,8 +54,7 @@ same-length-2 : tie.Need-same-length-2 Inv-loop μ-loop
 same-length-2 c = c .before .loop .inv .sized
 
 returns : tie.Need-returns Inv-loop μ-loop
-returns c = let st = c .before .before .before .before in let a = st .args in let l = c .before .loop in
-    layering-end (a .n) (a .m) (a .top) (a .from) (a .work .now) (a .out .now) (omega arith) (omega arith) (l .work) (l .out) (l .h) (l .many) (l .inv) (omega arith)
+returns c = layering-end (start (c .before) .pre .0) (c .before .loop .inv) (omega arith)
 
 pub write-fibres-spec : {M : Type 1} → statement M
 write-fibres-spec =
@@ -69,12 +63,12 @@ write-fibres-spec =
     Inv-loop
     μ-loop
     loop-holds
-    mul-put
-    add-put
-    add-put-2
+    (λ c. omega arith)
+    (λ c. omega arith)
+    (λ c. omega arith)
     cast-put
     put-requires
-    add-h
+    (λ c. omega arith)
     mul-one-layer
     one-layer-requires
     (λ c. search needs)

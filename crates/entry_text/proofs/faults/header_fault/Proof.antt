@@ -1,0 +1,32 @@
+-- `entry_text::faults::header_fault` meets its contract. Assumes nothing.
+use borrow.Author.Needs.{needs}
+use Rattle.entry_text.proofs.Sayings.{none-told, some-told}
+use Rattle.entry_text.proofs.FaultLaws.{header-fault-1, header-fault-2, header-fault-3}
+use Rattle.entry_text.proofs.faults.header_fault.Statement.{statement}
+use Rattle.entry_text.proofs.faults.header_fault.Tie as tie
+
+returns : tie.Need-returns
+returns c = header-fault-1 _ _ _ _ (none-told _ _ (c .before .before .before .word-number .ensures) (c .before .enum-told2 .given .1)) (c .fault-from .ensures)
+
+returns-2 : tie.Need-returns-2
+returns-2 c = header-fault-2 _ _ _ _ _ _ (c .before .before .before .before .word-past .ensures .0) (some-told _ _ _ (c .before .before .before .before .before .before .before .word-number .ensures) (c .before .before .before .before .before .enum-told .given .1)) (none-told _ _ (c .before .before .before .word-number2 .ensures) (c .before .enum-told4 .given .1)) (c .fault-from2 .ensures)
+
+returns-3 : tie.Need-returns-3
+returns-3 c = header-fault-3 _ _ _ _ _ _ (c .before .before .before .word-past .ensures .0) (some-told _ _ _ (c .before .before .before .before .before .before .word-number .ensures) (c .before .before .before .before .enum-told .given .1)) (some-told _ _ _ (c .before .before .word-number2 .ensures) (c .enum-told3 .given .1))
+
+pub header-fault-spec : {M : Type 1} → statement M
+header-fault-spec =
+    tie.close
+    (tie.spec
+    (λ c κs. search needs)
+    (λ c. search needs)
+    (λ c. search needs)
+    (λ c κs. search needs)
+    returns
+    (λ c κs. search needs)
+    (λ c κs. search needs)
+    (λ c. search needs)
+    (λ c. search needs)
+    (λ c κs. search needs)
+    returns-2
+    returns-3)

@@ -1,0 +1,151 @@
+-- After `plan` the lists hold what the answer counts, and the text made of them is that of the sheet. Assumes nothing.
+use Prim.Native.Nat.{ℕ, zero, suc, _+_, _*_, _/_, _<_, _≤_}
+use mathlib.Core.Path.{_≡_, refl, ap, subst, sym, _∙_}
+use mathlib.Core.List.{List, [], _++_, append-nil}
+use native.Mathlib.Omega.{arith}
+use lib.ListN.{length, drop, getD}
+use Rattle.records.specs.Records.{assignmentOf, circuitsOf, fibreOf, recordAt}
+use Rattle.records.specs.declared.Circuit.{Circuit}
+use Rattle.records.specs.declared.Line.{Line}
+use Rattle.records.proofs.Files.{length-circuitsIn}
+use Rattle.method.specs.Fibres.{floor, pairs, fibres, plan}
+use Rattle.method.specs.Line.{Assignment, Fibre, Plan, total}
+use Rattle.method.proofs.Few.{few-pairs}
+use Rattle.method.proofs.FibreLists.{length-twice}
+use Rattle.method.proofs.Links.{lies-there}
+use Rattle.refusals.specs.Given.{NoneApplies}
+use Rattle.refusals.specs.Table.{verdict, circuitRows, areaRows, planTable}
+use Rattle.refusals.specs.declared.Verdict.{Verdict}
+use Rattle.refusals.specs.declared.Verdict.the-variants.{Checked, Refused as Failed}
+use Rattle.refusals.proofs.Chain.{piece-gives}
+use Rattle.refusals.proofs.First.{verdict-passed, verdict-passes}
+use Rattle.refusals.proofs.Passed.{passes8, passes9, passes10}
+use Rattle.refusals.proofs.Pieces.{none-both, none-end, none-more}
+use Rattle.register.specs.Areas.{Areas}
+use Rattle.register.specs.Lists.{countsOf, fibreList, fibreRecords, assignmentList, assignmentRecords}
+use Rattle.register.specs.declared.Counts.{Counts}
+use Rattle.register.proofs.Reading.{assignment-record, fibre-record}
+use Rattle.rows.specs.Accepted.{Accepted}
+use Rattle.planner.specs.declared.Answer.{Answer}
+use Rattle.planner.specs.declared.Answer.the-variants.{Planned, Refused}
+use Rattle.planner.specs.Outcome.{Outcome, answerBy, ifAccepted, judged, numbersOf, planOf, tableFor}
+use Rattle.planner.proofs.Accepting.{accepted}
+use Rattle.planner.proofs.Demands.{length-assignments}
+use Rattle.sheet_text.specs.Text.{circuitLine, circuitLines, fibreLine, fibreLines, sheetText, totalLine}
+use Rattle.text.specs.Wrote.{Wrote}
+use Rattle.prints.specs.Sheets.{planText, sheetOf, textBy}
+use Rattle.prints.specs.inner.Lent.{answerText, Held, Ample}
+
+-- what was written of an answer that is told by its case
+pub of-case : (a b : Answer) (m r : ℕ) (fibres assigns out₀ out₁ : List ℕ) → a ≡ b → Wrote (answerText b m fibres assigns) r out₀ out₁ → Wrote (answerText a m fibres assigns) r out₀ out₁
+of-case a b m r fibres assigns out₀ out₁ e h = subst (λ (t : Answer). Wrote (answerText t m fibres assigns) r out₀ out₁) (sym e) h
+
+-- the lines of fibre records do not depend on what stands behind the records
+fibre-lines : (k : ℕ) (fs : List Fibre) (rest : List ℕ) → k ≤ length fs → fibreLines k (fibreRecords 0 fs ++ rest) ≡ fibreLines k (fibreRecords 0 fs)
+unfolding fibreLines
+fibre-lines zero fs rest h = refl
+fibre-lines (suc k) fs rest h =
+    let same : recordAt (fibreRecords 0 fs ++ rest) k ≡ recordAt (fibreRecords 0 fs) k =
+    fibre-record 0 fs rest k (omega arith) ∙ sym (ap (λ (t : List ℕ). recordAt t k) (sym (append-nil (fibreRecords 0 fs))) ∙ fibre-record 0 fs [] k (omega arith)) in
+    λ i. fibre-lines k fs rest (omega arith) i ++ fibreLine (fibreOf (same i))
+
+-- nor do those of assignment records
+circuit-lines : (m : ℕ) (cs : List Circuit) (gs : List Assignment) (rest : List ℕ) → length gs ≡ length cs → m ≤ length cs
+    → circuitLines m (assignmentRecords 0 cs gs ++ rest) ≡ circuitLines m (assignmentRecords 0 cs gs)
+unfolding circuitLines
+circuit-lines zero cs gs rest e h = refl
+circuit-lines (suc m) cs gs rest e h =
+    let same : recordAt (assignmentRecords 0 cs gs ++ rest) m ≡ recordAt (assignmentRecords 0 cs gs) m =
+    assignment-record 0 cs gs rest m e (omega arith) ∙ sym (ap (λ (t : List ℕ). recordAt t m) (sym (append-nil (assignmentRecords 0 cs gs))) ∙ assignment-record 0 cs gs [] m e (omega arith)) in
+    λ i. circuit-lines m cs gs rest e (omega arith) i ++ circuitLine (assignmentOf (same i))
+
+module _ (line : Line) (s : List ℕ) (before : Areas) (ample : Ample (before .fibres) (before .assigns) (before .work)) where
+  -- the method's plan, and how many circuits
+  many : length (circuitsOf s) ≡ length s / 8
+  many = length-circuitsIn (length s / 8) s
+
+  module _ (passed : NoneApplies (circuitRows line s)) where
+    -- what the tests left
+    took : Accepted (line .links) (line .wavelengths) (length s / 8) s
+    took = accepted line s passed
+
+    -- the lent areas are long enough, so no test of them applies
+    areas-pass : NoneApplies (areaRows (line .links) (length s / 8) (length (before .fibres)) (length (before .assigns)) (length (before .work)))
+    unfolding areaRows
+    areas-pass =
+        let m = length s / 8 in
+        let few = took .file .few in
+        let short = took .file .line in
+        let a = ample .fibres-ample in
+        let b = ample .assigns-ample in
+        let c = ample .work-ample in
+        none-more _ _ (passes8 16 m (length (before .fibres)) (omega arith))
+        (none-more _ _ (passes9 m (length (before .assigns)) (omega arith))
+        (none-more _ _ (passes10 (line .links) m (length (before .work)) (omega arith)) none-end))
+
+    -- all tests pass
+    all-pass : judged line s before ≡ Checked (length s / 8)
+    unfolding judged planTable
+    all-pass = verdict-passes (tableFor line s before) (length s / 8) (none-both (circuitRows line s) _ passed (none-both _ _ areas-pass none-end))
+
+    -- the plan has at most two fibres for each circuit
+    few-fibres : length ((planOf line s) .fibres) ≤ 2 * (length s / 8)
+    unfolding plan fibres
+    few-fibres =
+        let n = line .links in
+        let w = line .wavelengths in
+        let few = few-pairs n w (circuitsOf s) (lies-there n (circuitsOf s) (took .file .lies)) (took .waves .0) in
+        omega (arith, few, length-twice (pairs n w (circuitsOf s)), many)
+
+  -- what is said of the answer and the two lists that `plan` left, if the verdict of tests 1 to 7 was t: the lists hold what is counted, and the text of it is that of the sheet
+  abbrev Said : Verdict → Answer → List ℕ → List ℕ → Type 0
+  Said t answer fibres assigns =
+      Held answer (length s / 8) fibres assigns
+      × (answerText answer (length s / 8) fibres assigns ≡ textBy t (planText (circuitsOf s) (planOf line s) (floor (line .links) (line .wavelengths) (circuitsOf s))))
+
+  module _ (after : Areas) (answer : Answer) (long-fibres : length (after .fibres) ≡ length (before .fibres)) (long-assigns : length (after .assigns) ≡ length (before .assigns))
+      (o : Outcome line s before after answer) where
+    -- where the tests pass, the lists start with the records of the plan
+    planned : (m : ℕ) → verdict (circuitRows line s) (length s / 8) ≡ Checked m → Said (Checked m) (Planned (numbersOf line s)) (after .fibres) (after .assigns)
+    unfolding countsOf planText sheetText fibreList assignmentList plan
+    planned m q =
+        let passed = verdict-passed (circuitRows line s) (length s / 8) m q .1 in
+        let j = all-pass passed in
+        let p = planOf line s in
+        let given = length-assignments (line .links) (line .wavelengths) (circuitsOf s) in
+        let few = took passed .file .few in
+        let two = few-fibres passed in
+        let a = ample .fibres-ample in
+        let b = ample .assigns-ample in
+        let listed : after .fibres ≡ fibreRecords 0 (p .fibres) ++ drop (8 * length (p .fibres)) (before .fibres) =
+        o .listed ∙ ap (λ (t : Verdict). ifAccepted t (fibreList 0 (p .fibres) (before .fibres)) (before .fibres)) j in
+        let assigned : after .assigns ≡ assignmentRecords 0 (circuitsOf s) (p .assignments) ++ drop (8 * length (circuitsOf s)) (before .assigns) =
+        o .assigned ∙ ap (λ (t : Verdict). ifAccepted t (assignmentList 0 (circuitsOf s) (p .assignments) (before .assigns)) (before .assigns)) j in
+        let fibre-part = ap (fibreLines (length (p .fibres))) listed ∙ fibre-lines (length (p .fibres)) (p .fibres) _ (omega arith) in
+        let circuit-part : circuitLines (length s / 8) (after .assigns) ≡ circuitLines (length (circuitsOf s)) (assignmentRecords 0 (circuitsOf s) (p .assignments)) =
+        ap (circuitLines (length s / 8)) assigned ∙ circuit-lines (length s / 8) (circuitsOf s) (p .assignments) _ given (omega (arith, many))
+        ∙ ap (λ (k : ℕ). circuitLines k (assignmentRecords 0 (circuitsOf s) (p .assignments))) (sym many) in (
+          (omega arith, few, omega arith, omega arith),
+          λ i. fibre-part i ++ circuit-part i ++ totalLine (length (p .fibres)) (total (p .fibres)) (floor (line .links) (line .wavelengths) (circuitsOf s)),
+        )
+
+    -- by the verdict of tests 1 to 7
+    said : (t : Verdict) → verdict (circuitRows line s) (length s / 8) ≡ t → Said t answer (after .fibres) (after .assigns)
+    unfolding judged planTable
+    said (Checked m) q =
+        let j = all-pass (verdict-passed (circuitRows line s) (length s / 8) m q .1) in
+        let is : answer ≡ Planned (numbersOf line s) = o .answered ∙ ap (λ (t : Verdict). answerBy t (numbersOf line s)) j in
+        subst (λ (a : Answer). Said (Checked m) a (after .fibres) (after .assigns)) (sym is) (planned m q)
+    said (Failed number place) q =
+        let j : Failed number place ≡ judged line s before = piece-gives (circuitRows line s) _ (length s / 8) (length s / 8) number place (Failed number place) (sym q) refl in
+        let is : answer ≡ Refused number place = o .answered ∙ sym (ap (λ (t : Verdict). answerBy t (numbersOf line s)) j) in
+        subst (λ (a : Answer). Said (Failed number place) a (after .fibres) (after .assigns)) (sym is) (tt, refl)
+
+    -- the lists hold what the answer counts
+    pub held : Held answer (length s / 8) (after .fibres) (after .assigns)
+    held = said (verdict (circuitRows line s) (length s / 8)) refl .0
+
+    -- the text made of them is that of the sheet
+    pub sheet-made : answerText answer (length s / 8) (after .fibres) (after .assigns) ≡ sheetOf line s
+    unfolding sheetOf
+    sheet-made = said (verdict (circuitRows line s) (length s / 8)) refl .1

@@ -1,0 +1,4 @@
+pub mod Holding
+pub mod Printing
+pub mod TypedLaws
+pub mod ReadLaws

@@ -1,0 +1,5 @@
+pub mod Sheets
+pub mod Reads
+pub mod Typed
+pub mod Entering
+pub mod inner

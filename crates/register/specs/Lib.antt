@@ -1,0 +1,4 @@
+pub mod Lists
+pub mod Registered
+pub mod Plans
+pub mod Areas

@@ -1,0 +1,3 @@
+pub mod Layers
+pub mod Pairs
+pub mod Area
