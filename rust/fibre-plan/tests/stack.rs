@@ -1,0 +1,117 @@
+//! How much stack one call of `fibre_plan` uses: at most 16 KB, as the header says.
+#![cfg(target_arch = "x86_64")]
+use fibre_plan::{assignment_bytes, fibre_bytes, plan_bytes, work_bytes};
+use inputs::{encode, Family, Numbers, Rng, FAMILIES};
+use std::arch::asm;
+use std::hint::black_box;
+
+/// What the header promises.
+const PROMISED: usize = 16 * 1024;
+
+/// The stack that is lent, far more than what is promised.
+const STACK: usize = 64 * PROMISED;
+
+/// 16 bytes of stack: a stack's top stands at a multiple of 16.
+#[derive(Clone, Copy)]
+#[repr(C, align(16))]
+struct Line([u8; 16]);
+
+/// One call with its areas.
+struct Call {
+    links: usize,
+    wavelengths: usize,
+    circuits: Vec<u8>,
+    fibres: Vec<u8>,
+    assignments: Vec<u8>,
+    work: Vec<u8>,
+    planned: bool,
+}
+
+impl Call {
+    /// A call at the limits: 512 links and 2,048 circuits.
+    fn new(family: Family, numbers: Numbers, wavelengths: usize) -> Self {
+        let mut rng = Rng::new(wavelengths as u64);
+        let mut list = family.circuits(2048, 512, numbers, &mut rng);
+        rng.shuffle(&mut list);
+        Self {
+            links: 512,
+            wavelengths,
+            circuits: encode(&list),
+            fibres: vec![0; fibre_bytes(2048)],
+            assignments: vec![0; assignment_bytes(2048)],
+            work: vec![0; work_bytes(512, 2048)],
+            planned: false,
+        }
+    }
+}
+
+/// Makes the call.
+extern "C" fn make(call: &mut Call) {
+    let answer = plan_bytes(
+        call.links,
+        call.wavelengths,
+        &call.circuits,
+        &mut call.fibres,
+        &mut call.assignments,
+        &mut call.work,
+    );
+    call.planned = answer.is_ok();
+}
+
+/// Calls a function on a stack that is lent.
+fn call_on<T>(stack: &mut [Line], function: extern "C" fn(&mut T), argument: &mut T) {
+    let top = stack.as_mut_ptr_range().end;
+    // SAFETY: the stack is lent for the call, its top is a multiple of 16, and the stack pointer, kept in a register
+    // that the callee preserves, is put back.
+    unsafe {
+        asm!(
+            "mov r12, rsp",
+            "mov rsp, {top}",
+            "call {function}",
+            "mov rsp, r12",
+            top = in(reg) top,
+            function = in(reg) function,
+            in("rdi") argument,
+            out("r12") _,
+            clobber_abi("C"),
+        );
+    }
+}
+
+/// The bytes of stack down to the lowest that a call writes; a byte that is written with the paint does not show.
+fn used<T>(function: extern "C" fn(&mut T), argument: &mut T, paint: u8) -> usize {
+    let mut stack = vec![Line([paint; 16]); STACK / 16];
+    call_on(&mut stack, function, argument);
+    let mut bytes = stack.iter().flat_map(|line| line.0);
+    STACK - bytes.position(|byte| byte != paint).unwrap_or(STACK)
+}
+
+/// Writes some bytes of stack.
+extern "C" fn write_20_000(seed: &mut u8) {
+    black_box([*seed; 20_000]);
+}
+
+#[test]
+fn what_is_written_is_seen() {
+    let bytes = used(write_20_000, &mut 1, 0xa5);
+    assert!((20_000..40_100).contains(&bytes), "{bytes}");
+}
+
+#[test]
+fn a_call_uses_at_most_16_kb_of_stack() {
+    let mut most = 0;
+    for family in FAMILIES {
+        for numbers in [Numbers::Rising, Numbers::Shuffled] {
+            for wavelengths in [1, 4, 16, 40] {
+                for paint in [0xa5, 0x5a] {
+                    let mut call = Call::new(family, numbers, wavelengths);
+                    let bytes = used(make, &mut call, paint);
+                    assert!(call.planned);
+                    most = most.max(bytes);
+                }
+            }
+        }
+    }
+    println!("a call uses at most {most} bytes of stack");
+    assert!(most <= PROMISED, "{most} bytes of stack");
+}

@@ -1,0 +1,73 @@
+//! Sheets and texts as they should be.
+use inputs::Circuit;
+use std::fmt::Write;
+
+/// The number of two bytes that stands at a place.
+fn two_at(record: &[u8], at: usize) -> u16 {
+    u16::from_le_bytes([record[at], record[at + 1]])
+}
+
+/// The sheet of the records of a line, by the reference: its lines, or the line of the refusal.
+pub fn sheet_of(n: u16, w: u16, circuits: &[u8]) -> String {
+    let many = circuits.len() / 8;
+    let mut fibres = vec![0; 16 * many];
+    let mut assignments = vec![0; 8 * many];
+    let mut work = vec![0; 4 * usize::from(n) + 4 * many];
+    let planned = reference::plan(
+        n.into(),
+        w.into(),
+        circuits,
+        &mut fibres,
+        &mut assignments,
+        &mut work,
+    );
+    let counts = match planned {
+        Ok(counts) => counts,
+        Err(refused) => return format!("R {} {}\n", refused.number, refused.place),
+    };
+    let mut text = String::new();
+    for record in fibres.chunks_exact(8).take(counts.fibres) {
+        let [number, first, last, layer] = [0, 2, 4, 6].map(|at| two_at(record, at));
+        writeln!(text, "F {number} {first} {last} {layer}").unwrap();
+    }
+    for record in assignments.chunks_exact(8) {
+        let number = u32::from_le_bytes(record[..4].try_into().unwrap());
+        let [fibre, wavelength] = [4, 6].map(|at| two_at(record, at));
+        let frequency = 193_100 + 100 * (i32::from(wavelength) - 11);
+        writeln!(text, "C {number} {fibre} {wavelength} {frequency}").unwrap();
+    }
+    writeln!(
+        text,
+        "T {} {} {}",
+        counts.fibres, counts.total, counts.floor
+    )
+    .unwrap();
+    text
+}
+
+/// The text that a person would type for the circuits of a line.
+pub fn text_of(n: u16, w: u16, circuits: &[Circuit]) -> String {
+    let mut text = format!("{n} {w}\n");
+    for (number, first, last) in circuits {
+        writeln!(text, "{number} {first} {last}").unwrap();
+    }
+    text
+}
+
+/// Two texts are the same; else the first line that differs is told.
+///
+/// # Panics
+///
+/// Where they are not.
+#[track_caller]
+pub fn assert_same(printed: &str, expected: &str) {
+    if printed == expected {
+        return;
+    }
+    let mut expected_lines = expected.split_inclusive('\n');
+    let mut lines = printed.split_inclusive('\n').enumerate();
+    let differs = lines.find(|(_, line)| expected_lines.next() != Some(line));
+    let (at, line) = differs.unwrap_or((printed.lines().count(), ""));
+    let expected = expected.split_inclusive('\n').nth(at).unwrap_or("");
+    panic!("line {} is {line:?}, not {expected:?}", at + 1);
+}

@@ -1,0 +1,132 @@
+//! `enter` is ended at each of its calls of the system: the folder then has the old pair, the new pair, or is refused.
+//!
+//! Where no process can be traced it fails, unless `FIBRE_PLAN_NO_TRACE` is set: then it says that it was not tried.
+use inputs::encode;
+use programs::texts::LISTING;
+use programs::{program, run, sheet_of, start, text_of, Folder};
+use std::env;
+use std::ffi::{c_int, c_long, c_void};
+use std::fs::{self, File};
+use std::io::{self, Write};
+use std::os::unix::process::CommandExt;
+use std::process::{Command, Stdio};
+use std::ptr::null_mut;
+
+/// Requests of `ptrace`.
+const TRACE_ME: c_int = 0;
+const GO_TO_CALL: c_int = 24;
+
+/// The signal that cannot be caught.
+const KILL: c_int = 9;
+
+extern "C" {
+    fn ptrace(request: c_int, pid: c_int, address: *mut c_void, data: *mut c_void) -> c_long;
+    fn waitpid(pid: c_int, status: *mut c_int, options: c_int) -> c_int;
+    fn kill(pid: c_int, signal: c_int) -> c_int;
+}
+
+/// Waits until a process stops or ends; whether it has stopped.
+fn stops(pid: c_int) -> bool {
+    let mut status = 0;
+    // SAFETY: the status is written to a local; the process is a child that nobody else waits for.
+    assert_eq!(unsafe { waitpid(pid, &mut status, 0) }, pid);
+    status & 0xff == 0x7f
+}
+
+/// Runs `enter` and ends it before its system call of this number, counted from 0, takes effect; whether it came so far.
+fn enter_until(calls: usize, folder: &Folder, text: &str) -> bool {
+    let input = Folder::with(&[("text", text.as_bytes())]);
+    let mut command = Command::new(program("enter"));
+    command.current_dir(folder.path()).stdout(Stdio::null());
+    command.stdin(File::open(input.at("text")).unwrap());
+    // Fewer calls before the program's own.
+    command.env_remove("LD_LIBRARY_PATH");
+    // SAFETY: between fork and exec only `ptrace` is called, which allocates nothing.
+    unsafe {
+        command.pre_exec(|| {
+            ptrace(TRACE_ME, 0, null_mut(), null_mut());
+            Ok(())
+        });
+    }
+    let pid = start(&mut command).id() as c_int;
+    // It stops as it becomes the program; then at the start and at the end of each call.
+    let mut stopped = stops(pid);
+    for _ in 0..2 * calls + 1 {
+        if !stopped {
+            return false;
+        }
+        // SAFETY: the child has stopped; neither request reads or writes memory of ours.
+        assert_eq!(
+            unsafe { ptrace(GO_TO_CALL, pid, null_mut(), null_mut()) },
+            0
+        );
+        stopped = stops(pid);
+    }
+    if stopped {
+        // SAFETY: the child is ours and has not been waited for.
+        assert_eq!(unsafe { kill(pid, KILL) }, 0);
+        assert!(!stops(pid));
+    }
+    stopped
+}
+
+/// Whether no process should be traced; this is told, past what a test run keeps to itself.
+fn not_tried() -> bool {
+    let told = env::var_os("FIBRE_PLAN_NO_TRACE").is_some();
+    if told {
+        let words = b"FIBRE_PLAN_NO_TRACE is set: an end at each system call was not tried\n";
+        io::stderr().write_all(words).unwrap();
+    }
+    told
+}
+
+/// From a folder with an old pair, which is then made ready, `enter` is ended at each of its calls: what is then in the
+/// folder is the old pair, from some call on no pair, and from some call on the new pair.
+fn ended_at_each_call(ready: impl Fn(&Folder)) {
+    if not_tried() {
+        return;
+    }
+    let old = encode(&[(77, 8, 9)]);
+    let (text, new) = (text_of(5, 2, &LISTING), encode(&LISTING));
+    let just_new = Folder::with_records(5, 2, &new).entries();
+    let sheets = [
+        sheet_of(9, 3, &old),
+        "R 11 0\n".to_owned(),
+        sheet_of(5, 2, &new),
+    ];
+    // Which of the three a folder has, from the first call to the last.
+    let mut met = Vec::new();
+    for calls in 0.. {
+        let folder = Folder::with_records(9, 3, &old);
+        ready(&folder);
+        let ended = enter_until(calls, &folder, &text);
+        let sheet = run("sheet", &folder, b"");
+        let which = sheets.iter().position(|known| *known == sheet);
+        met.push(which.unwrap_or_else(|| panic!("ended at call {calls}: {sheet}")));
+        if !ended {
+            break;
+        }
+        // What was left does not matter to the next run.
+        assert_eq!(run("enter", &folder, text.as_bytes()), "circuits: 4\n");
+        assert!(folder.entries() == just_new, "ended at call {calls}");
+    }
+    assert!(
+        met.len() > 1,
+        "no process can be traced here; set FIBRE_PLAN_NO_TRACE to go without this test"
+    );
+    let many = [0, 1, 2].map(|state| met.iter().filter(|&&which| which == state).count());
+    println!("ended at each call: old, none and new {many:?} times");
+    assert!(met.is_sorted() && met[0] == 0 && met.ends_with(&[2]));
+}
+
+#[test]
+fn at_every_moment_the_old_pair_or_the_new_or_none() {
+    ended_at_each_call(|_| ());
+}
+
+#[test]
+fn the_same_with_a_hard_link_to_the_line_at_the_name_of_the_old_line() {
+    ended_at_each_call(|folder| {
+        fs::hard_link(folder.at("line.rec"), folder.at("line.rec.old")).unwrap();
+    });
+}

@@ -1,0 +1,162 @@
+//! What `typed` prints for a text, and that it writes no file.
+use inputs::{encode, Circuit, Family, Numbers, Rng};
+use programs::texts::{right_texts, wrong_texts, LISTING, MOST_BYTES};
+use programs::{
+    assert_same, random_line, run, run_without_input, sheet_of, text_of, Folder, UNREAD_INPUT,
+};
+
+/// What is wrong, by refusal number.
+const FAULTS: [(&str, &str); 5] = [
+    ("R 3 ", "not 1 to 512 links"),
+    ("R 4 ", "not 1 to 40 wavelengths"),
+    ("R 5 ", "circuit number 0"),
+    ("R 6 ", "an end that is not on the line"),
+    ("R 7 ", "a circuit number that stands twice"),
+];
+
+/// The program prints this for a text, whatever stands in its folder, and changes nothing there.
+#[track_caller]
+fn prints(text: &[u8], expected: &str) {
+    for folder in [
+        Folder::new(),
+        Folder::with_records(9, 3, &encode(&[(77, 8, 9)])),
+    ] {
+        let before = folder.entries();
+        assert_same(&run("typed", &folder, text), expected);
+        assert!(folder.entries() == before, "the folder has changed");
+    }
+}
+
+/// The numbers of the lines that count: that of `n w`, then those of the circuits.
+fn lines_that_count(text: &[u8]) -> Vec<usize> {
+    let counts = |line: &[u8]| {
+        let first = line.iter().find(|byte| !b" \t\r".contains(byte));
+        first.is_some_and(|&byte| byte != b'#')
+    };
+    let lines = text.split(|&byte| byte == b'\n').enumerate();
+    lines
+        .filter(|(_, line)| counts(line))
+        .map(|(at, _)| at + 1)
+        .collect()
+}
+
+/// The sheet of a text that says this, or its refusal with the line of the text.
+fn expected(text: &[u8], n: u16, w: u16, circuits: &[Circuit]) -> String {
+    let sheet = sheet_of(n, w, &encode(circuits));
+    let Some((_, fault)) = FAULTS.iter().find(|(start, _)| sheet.starts_with(start)) else {
+        assert!(!sheet.starts_with('R'), "{sheet}");
+        return sheet;
+    };
+    let place: usize = sheet
+        .trim_end()
+        .rsplit(' ')
+        .next()
+        .unwrap()
+        .parse()
+        .unwrap();
+    // The header is the line before the first circuit's, and its refusals have place 0.
+    format!("{sheet}line {}: {fault}\n", lines_that_count(text)[place])
+}
+
+#[test]
+fn right_texts_are_planned_or_refused() {
+    for (text, n, w, circuits) in right_texts() {
+        prints(&text, &expected(&text, n, w, &circuits));
+    }
+}
+
+#[test]
+fn wrong_texts_are_told() {
+    for (text, told) in wrong_texts() {
+        prints(&text, &told);
+    }
+}
+
+#[test]
+fn the_listing() {
+    let sheet = "F 1 2 2 1\nF 2 2 2 1\nF 3 1 5 2\nF 4 1 5 2\n\
+        C 10 3 2 192200\nC 20 4 1 192100\nC 30 3 1 192100\nC 40 3 2 192200\nT 4 12 6\n";
+    prints(text_of(5, 2, &LISTING).as_bytes(), sheet);
+    prints(b"# no circuits\n5 2", "T 0 0 0\n");
+}
+
+/// A text is refused by this line, and then the number of its line and the fault are told; and so it is with idle lines
+/// before it.
+#[track_caller]
+fn refuses(text: &str, refusal: &str, line: usize, fault: &str) {
+    for (before, lines) in [("", 0), ("# 5 2\n", 1), ("\n \t\r\n  # x\n\n", 4)] {
+        let told = format!("{refusal}\nline {}: {fault}\n", line + lines);
+        prints(format!("{before}{text}").as_bytes(), &told);
+    }
+}
+
+#[test]
+fn each_refusal_and_its_line() {
+    for n in ["0", "513", "65535"] {
+        let text = format!("{n} 41\n# x\n\n0 0 0\n");
+        refuses(&text, "R 3 0", 1, "not 1 to 512 links");
+    }
+    for w in ["0", "41", "65535"] {
+        let text = format!("512 {w}\n\n# x\n0 0 0\n");
+        refuses(&text, "R 4 0", 1, "not 1 to 40 wavelengths");
+    }
+    let text = "5 2\n# x\n10 0 9\n\n0 1 3\n10 1 1\n0 1 1";
+    refuses(text, "R 5 2", 5, "circuit number 0");
+    for ends in ["0 1", "0 0", "3 2", "5 6", "6 6", "1 65535"] {
+        let text = format!("5 2\n10 1 3\n# x\n20 2 5\n\n10 {ends}\n40 9 9\n");
+        refuses(&text, "R 6 3", 6, "an end that is not on the line");
+    }
+    let text = "5 2\r\n10 1 3\r\n\r\n20 1 3\r\n# 10 1 3\r\n10 1 3\r\n20 1 3\r\n";
+    refuses(text, "R 7 3", 6, "a circuit number that stands twice");
+}
+
+#[test]
+fn n_and_w_are_told_apart() {
+    prints(b"41 40", "T 0 0 0\n");
+    prints(b"40 41", "R 4 0\nline 1: not 1 to 40 wavelengths\n");
+    prints(
+        b"2 5\n10 1 3\n",
+        "R 6 1\nline 2: an end that is not on the line\n",
+    );
+}
+
+#[test]
+fn sheets_at_the_limits() {
+    for w in [1, 40] {
+        for family in [Family::Random, Family::Full] {
+            let mut list = family.circuits(2048, 512, Numbers::Shuffled, &mut Rng::new(w.into()));
+            for (i, circuit) in list.iter_mut().enumerate() {
+                circuit.0 = u32::MAX - i as u32;
+            }
+            let mut text = text_of(512, w, &list).into_bytes();
+            text.resize(MOST_BYTES, b'\n');
+            prints(&text, &sheet_of(512, w, &encode(&list)));
+        }
+    }
+}
+
+/// The text of a line, with lines between that do not count.
+fn with_idle_lines(text: &str, rng: &mut Rng) -> String {
+    let idle = ["", "", "\n", "# 1 1 1\n", "\r\n", " \t\n", "\t#\r\n"];
+    let lines = text.split_inclusive('\n');
+    lines
+        .map(|line| idle[rng.within(0, 6)].to_owned() + line)
+        .collect()
+}
+
+#[test]
+fn random_texts() {
+    for seed in 0..200 {
+        let (n, w, circuits) = random_line(seed);
+        let text = with_idle_lines(&text_of(n, w, &circuits), &mut Rng::new(seed));
+        prints(text.as_bytes(), &expected(text.as_bytes(), n, w, &circuits));
+    }
+}
+
+#[test]
+fn standard_input_that_cannot_be_read() {
+    let folder = Folder::with_records(9, 3, &encode(&[(77, 8, 9)]));
+    let before = folder.entries();
+    assert_eq!(run_without_input("typed", &folder), UNREAD_INPUT);
+    assert!(folder.entries() == before, "the folder has changed");
+}
