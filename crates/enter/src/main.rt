@@ -11,8 +11,12 @@ fn keep(line: &[u8], circuits: &[u8], message: &[u8]) {
     let pair = files::pair::replace_pair(line, circuits);
     match pair {
         Replacement::Done => files::write_output(message),
-        Replacement::NotWritten => files::write_output(b"line.rec and circuits.rec cannot be written\n"),
-        Replacement::NotNamed => files::write_output(b"line.rec and circuits.rec cannot be replaced\n"),
+        Replacement::NotWritten => files::write_output(
+            b"line.rec and circuits.rec cannot be written\n",
+        ),
+        Replacement::NotNamed => files::write_output(
+            b"line.rec and circuits.rec cannot be replaced\n",
+        ),
     }
     ;
 }

@@ -1,10 +1,10 @@
 -- The turns of the loop over the layers. Assumes nothing.
 use Prim.Native.Nat.{ℕ, _+_, _*_, _/_, _≤_, _<_}
-use mathlib.Core.Path.{_≡_, refl, ap, _∙_}
+use mathlib.Core.Path.{_≡_, refl, ap, _∙_, sym}
 use mathlib.Core.List.{List}
 use native.Mathlib.Omega.{arith}
 use lib.ListN.{length, getD, set, take}
-use lib.Seq.{getD-set-same, getD-set-other, take-set-le}
+use lib.Seq.{getD-drop, getD-set-same, getD-set-other, take-set-le}
 use Rattle.basics.proofs.Bools.{by-eq}
 use Rattle.records.specs.Bytes.{cellsOf, setCell}
 use Rattle.records.proofs.CellLaws.{length-cellsOf, stored}
@@ -36,12 +36,12 @@ module _ {n m top from : ℕ} {b₀ out₀ : List ℕ} (parts : HasParts n m top
         record {
           kept = ap (take (2 * n + m)) s ∙ take-set-le (2 * n + m) (cellsOf b) (2 * n + m + h) pairs (omega arith) ∙ g .spare .kept;
           starts = λ k u.
-              ap (λ c. getD c (2 * n + m + k) 0) s
+              getD-drop (2 * n + m) (cellsOf b₁) k 0 ∙ ap (λ c. getD c (2 * n + m + k) 0) s
               ∙ by-eq k h
               (λ z.
               ap (λ y. getD (set (cellsOf b) (2 * n + m + h) pairs) (2 * n + m + y) 0) z ∙ getD-set-same (cellsOf b) (2 * n + m + h) pairs 0 (omega arith) ∙ g .pairs-are
               ∙ ap (λ y. length (layersBy (at (cellsOf b₀)) n top y)) (let z′ : h ≡ k = omega arith in z′))
-              (λ z. getD-set-other (cellsOf b) (2 * n + m + h) (2 * n + m + k) pairs 0 (omega arith) ∙ g .spare .starts k (omega arith));
+              (λ z. getD-set-other (cellsOf b) (2 * n + m + h) (2 * n + m + k) pairs 0 (omega arith) ∙ sym (getD-drop (2 * n + m) (cellsOf b) k 0) ∙ g .spare .starts k (omega arith));
         }
 
     -- c(i) of each link is still there, so the next layer is the same

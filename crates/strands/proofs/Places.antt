@@ -7,8 +7,10 @@ use native.Mathlib.Omega.{arith}
 use native.Mathlib.Nat.{div-add-mod'}
 use lib.Dec.{leb}
 use lib.ListN.{length, getD}
+use lib.Seq.{getD-drop}
 use Rattle.basics.specs.Tools.{seek}
 use Rattle.basics.proofs.Bools.{on}
+use Rattle.basics.proofs.Tables.{getD-part}
 use Rattle.records.specs.Bytes.{cellsOf}
 use Rattle.records.specs.Records.{circuitsIn}
 use Rattle.records.specs.declared.Circuit.{Circuit}
@@ -43,7 +45,7 @@ module _ {n w m count : ℕ} {s work list : List ℕ} (src : Sources n w m count
   -- its row, and 1 for the second fibre
   row-half : (v / 2 ≡ getD (rows n w cs) j 0) × (v % 2 ≡ cond led 0 1)
   row-half =
-      let u : v ≡ 2 * getD (rows n w cs) j 0 + cond led 0 1 = e ∙ src .marked .halves j h in
+      let u : v ≡ 2 * getD (rows n w cs) j 0 + cond led 0 1 = e ∙ sym (getD-part (2 * n) m (cellsOf work) j 0 h) ∙ src .marked .halves j h in
       on led (λ t. let u′ : v ≡ 2 * getD (rows n w cs) j 0 + 0 = rw t at u in rw t (omega arith, omega arith))
       (λ t. let u′ : v ≡ 2 * getD (rows n w cs) j 0 + 1 = rw t at u in rw t (omega arith, omega arith))
 
@@ -60,7 +62,7 @@ module _ {n w m count : ℕ} {s work list : List ℕ} (src : Sources n w m count
   module _ {start : ℕ} (b : start ≡ getD (cellsOf work) (2 * n + m + (v / 2 - 1) / w) 0) where
     -- where the pairs of its layer start
     start-is : start ≡ length (layers n w cs ((getD (rows n w cs) j 0 - 1) / w))
-    start-is = b ∙ src .marked .starts ((v / 2 - 1) / w) (layer-top .0) ∙ ap (λ k. length (layers n w cs ((k - 1) / w))) (row-half .0)
+    start-is = b ∙ sym (getD-drop (2 * n + m) (cellsOf work) ((v / 2 - 1) / w) 0) ∙ src .marked .starts ((v / 2 - 1) / w) (layer-top .0) ∙ ap (λ k. length (layers n w cs ((k - 1) / w))) (row-half .0)
 
     -- in the list
     pub start-low : start ≤ count

@@ -5,9 +5,8 @@ use mathlib.Core.Path.{_≡_, sym, ap, _∙_}
 use mathlib.Core.List.{List}
 use native.Mathlib.Omega.{arith}
 use lib.ListN.{length, getD}
-use lib.Seq.{getD-drop}
 use Rattle.basics.specs.Tools.{part}
-use Rattle.basics.proofs.Tables.{getD-part, part-kept}
+use Rattle.basics.proofs.Tables.{part-kept}
 use Rattle.records.specs.Bytes.{cellsOf}
 use Rattle.records.specs.Records.{circuitsIn}
 use Rattle.records.specs.declared.Circuit.{Circuit}
@@ -109,11 +108,11 @@ module _ {n w m from top : ℕ} {s : List ℕ} {lent : Areas} (rd : Ready n w m 
         record {
           long = long;
           halves = λ j h.
-              sym (getD-part (2 * n) m (cellsOf b₂) j 0 h) ∙ hv .halves j h
+              hv .halves j h
               ∙ ap (λ l. 2 * getD l j 0 + cond (onFirst cs l (λ d. 0) j) 0 1) rows-are
               ∙ ap (λ (v : Bool). 2 * getD (rows n w cs) j 0 + cond v 0 1) (sym (first-any-run n w cs lies waves j (omega (arith, length-circuitsIn m s))));
           starts = λ h l.
-              sym (getD-drop (2 * n + m) (cellsOf b₂) h 0) ∙ ap (λ c. getD c h 0) (hv .spare) ∙ getD-drop (2 * n + m) C₁ h 0 ∙ put .spare .starts h (omega arith)
+              ap (λ c. getD c h 0) (hv .spare) ∙ put .spare .starts h (omega arith)
               ∙ ap length (layers-are h);
         }
 

@@ -6,6 +6,7 @@ use mathlib.Core.List.{List}
 use lib.Dec.{leb}
 use lib.ListN.{length, getD}
 use Rattle.basics.specs.Tools.{each}
+use Rattle.records.specs.Area.{rowsIn, spareIn}
 use Rattle.records.specs.Bytes.{cellsOf}
 use Rattle.records.specs.Records.{circuitsIn, fibreOf, putRecord, recordAt}
 use Rattle.method.specs.Fibres.{given, layers, onFirst, pairOf, pairs}
@@ -14,12 +15,12 @@ use Rattle.method.specs.Sheet.{most, rows}
 use Rattle.register.specs.Lists.{assignmentRecord, assignmentRecords}
 use Rattle.rows.specs.Accepted.{Accepted}
 
--- from cell 2n on stands, for each circuit, twice its row, and 1 more for the second fibre; then, for each layer, the number of pairs before it
+-- in the rows' part stands, for each circuit, twice its row, and 1 more for the second fibre; in the spare part, for each layer, the number of pairs before it
 pub record Marked (n w m : ℕ) (s work : List ℕ) : Type 0 where
   pub long : length work ≡ 4 * n + 4 * m
   pub halves : (j : ℕ) → j < m
-      → getD (cellsOf work) (2 * n + j) 0 ≡ 2 * getD (rows n w (circuitsIn m s)) j 0 + cond (onFirst (circuitsIn m s) (rows n w (circuitsIn m s)) (pairOf n w (circuitsIn m s) (rows n w (circuitsIn m s))) j) 0 1
-  pub starts : (h : ℕ) → h < most n w (circuitsIn m s) → getD (cellsOf work) (2 * n + m + h) 0 ≡ length (layers n w (circuitsIn m s) h)
+      → getD (rowsIn n m (cellsOf work)) j 0 ≡ 2 * getD (rows n w (circuitsIn m s)) j 0 + cond (onFirst (circuitsIn m s) (rows n w (circuitsIn m s)) (pairOf n w (circuitsIn m s) (rows n w (circuitsIn m s))) j) 0 1
+  pub starts : (h : ℕ) → h < most n w (circuitsIn m s) → getD (spareIn n m (cellsOf work)) h 0 ≡ length (layers n w (circuitsIn m s) h)
 
 -- the fibre list has `count` pairs, and their number has two bytes
 pub record HasPairs (count : ℕ) (list : List ℕ) : Type 0 where

@@ -5,6 +5,7 @@ use mathlib.Core.List.{List, [], _++_}
 use mathlib.Core.Path.{_≡_}
 use lib.ListN.{length, getD, take}
 use lib.Dec.{leb}
+use Rattle.records.specs.Area.{spareIn}
 use Rattle.records.specs.Bytes.{cellsOf}
 use Rattle.method.specs.Fibres.{runs}
 use Rattle.method.specs.Line.{Fibre}
@@ -49,4 +50,4 @@ pub record HasParts (n m top : ℕ) (work : List ℕ) : Type 0 where
 -- the spare cells of C' have, for each of the first k layers, the number of pairs before it; the cells before them are as in C
 pub record Spared (n m top k : ℕ) (C C' : List ℕ) : Type 0 where
   pub kept : take (2 * n + m) C' ≡ take (2 * n + m) C
-  pub starts : (h : ℕ) → h < k → getD C' (2 * n + m + h) 0 ≡ length (layersBy (at C) n top h)
+  pub starts : (h : ℕ) → h < k → getD (spareIn n m C') h 0 ≡ length (layersBy (at C) n top h)
