@@ -1,13 +1,13 @@
 /* A fibre planner that is proved: every circuit of a line gets a fibre and a wavelength.
  *
  * Build the archive with `rt staticlib exports`, and link target/staticlib/libexports.a (x86-64 Linux).
- * The function keeps nothing between calls, allocates nothing and uses less than 16 KB of stack; several threads may call it at
+ * The function keeps nothing between calls, allocates nothing and uses less than 32 KB of stack; several threads may call it at
  * the same time, each with areas of its own.
  *
  * All records have 8 bytes; all numbers are unsigned and stand low byte first.
  *
  *   circuit      number (4 bytes, from 1, no two alike), first link (2), last link (2)
- *   fibre        number (2 bytes, from 1), first link (2), last link (2), layer (2, from 1)
+ *   fibre        number (2 bytes, from 1), first link (2), last link (2), layer (2, from 1; a layer may have no fibre)
  *   assignment   circuit number (4 bytes), fibre number (2), wavelength (2, from 1)
  */
 #ifndef FIBRE_PLAN_H
@@ -25,8 +25,8 @@ extern "C" {
 #define FIBRE_PLAN_MAX_WAVELENGTHS 40
 #define FIBRE_PLAN_MAX_CIRCUITS 2048
 
-/* The bytes that each area must have, for so many circuits and links. */
-#define FIBRE_PLAN_FIBRE_BYTES(circuits) (16 * (size_t)(circuits))
+/* The bytes that each area must have, for so many circuits and links. There is at most one fibre a circuit. */
+#define FIBRE_PLAN_FIBRE_BYTES(circuits) (8 * (size_t)(circuits))
 #define FIBRE_PLAN_ASSIGNMENT_BYTES(circuits) (8 * (size_t)(circuits))
 #define FIBRE_PLAN_WORK_BYTES(links, circuits) (4 * (size_t)(links) + 4 * (size_t)(circuits))
 
@@ -44,19 +44,20 @@ extern "C" {
  *      5     a circuit number is 0                                        the first such record
  *      6     a first link is 0, or past the last, or the last past links  the first such record
  *      7     a circuit number stands twice                                the first that repeats
- *      8     fibres has fewer than 16 bytes a circuit                     0
+ *      8     fibres has fewer than 8 bytes a circuit                      0
  *      9     assignments has fewer than 8 bytes a circuit                 0
  *     10     work has fewer than 4 bytes a link and 4 bytes a circuit     0
  */
 typedef struct fibre_plan_answer {
     uint32_t refusal; /* 0: planned */
     uint32_t place;
-    size_t fibres;    /* how many fibre records were written */
+    size_t fibres;    /* how many fibre records were written, at most one a circuit */
     size_t total;     /* the sum over the fibres of the links that they span */
-    size_t floor;     /* a length that no valid plan can be shorter than */
+    size_t floor;     /* a length that no valid plan can be shorter than; total is at most twice that */
 } fibre_plan_answer;
 
-/* Plans the circuits of a line.
+/* Plans the circuits of a line. No fibre is dark, not even on one of its links: each link of a fibre is
+ * used by a circuit that the fibre carries.
  *
  *   links, wavelengths   of the line, and of each fibre; any value is taken
  *   circuits             circuits_len bytes of circuit records, in any order; only read

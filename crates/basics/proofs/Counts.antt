@@ -152,6 +152,16 @@ count-or r p q (suc m) h =
     (λ e. on (q m) (λ f. rw (e, f) (omega arith)) (λ f. rw (e, f, h m (omega arith) e f) (omega arith)))
     (λ e. rw e (omega arith))
 
+-- what passes p or q passes r, and nothing passes both
+pub count-apart : (p q r : ℕ → Bool) (m : ℕ) → ((j : ℕ) → j < m → p j ≡ true → r j ≡ true) → ((j : ℕ) → j < m → q j ≡ true → (r j ≡ true) × (p j ≡ false)) → count p m + count q m ≤ count r m
+unfolding count
+count-apart p q r zero a b = omega arith
+count-apart p q r (suc m) a b =
+    let ih = count-apart p q r m (λ j l. a j (omega arith)) (λ j l. b j (omega arith)) in
+    on (q m)
+    (λ e. let z = b m (omega arith) e in rw (e, z .0, z .1) (omega arith))
+    (λ e. on (p m) (λ f. rw (e, f, a m (omega arith) f) (omega arith)) (λ f. rw (e, f) (omega arith)))
+
 -- at most one passes, if any two that pass are the same
 pub count-one : (p : ℕ → Bool) (m : ℕ) → ((a b : ℕ) → a < m → b < m → p a ≡ true → p b ≡ true → a ≡ b) → count p m ≤ 1
 unfolding count

@@ -4,3 +4,4 @@ pub mod Tables
 pub mod Counts
 pub mod Sums
 pub mod Pins
+pub mod LastLaws

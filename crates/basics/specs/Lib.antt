@@ -1,1 +1,2 @@
 pub mod Tools
+pub mod Lasts

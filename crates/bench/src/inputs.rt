@@ -31,24 +31,37 @@ fn number(k: usize, f: Faults) -> u32
     (k + 1) as u32
 }
 
+// How many links further than the first record k stands: none, or in a chain two for each two records.
+fn along(k: usize, chain: bool) -> u16
+    requires { ⌜ k < 2049 ⌝ }
+    ensures { λ r. ⌜ r ≤ 2048 ⌝ }
+{
+    if chain {
+        return ((k + 1) / 2 * 2) as u16;
+    }
+    0
+}
+
 // The first link of record k: record 2 has fault 6.
-fn first(k: usize, f: Faults) -> u16 {
+fn first(k: usize, chain: bool, f: Faults) -> u16
+    requires { ⌜ k < 2049 ⌝ }
+{
     if k == 2 && has(f, 6) {
         return 600;
     }
-    1
+    1 + along(k, chain)
 }
 
-// Fills the start of a buffer with circuits from link 1 to `last`, numbered from 1 and with the given faults.
-pub fn fill(buf: &mut [u8], many: usize, last: u16, f: Faults)
-    requires { ⌜ (many ≤ 2049) × (8 * many ≤ length (now buf)) ⌝ }
+// Fills the start of a buffer with circuits numbered from 1 and with the given faults. The first runs from link 1 to `last`, and so do the others, or they stand along a chain.
+pub fn fill(buf: &mut [u8], many: usize, last: u16, chain: bool, f: Faults)
+    requires { ⌜ (many ≤ 2049) × (8 * many ≤ length (now buf)) × (last ≤ 512) ⌝ }
 {
     let mut k = 0;
     while k < many {
         let c = Circuit {
             number: number(k, f),
-            first: first(k, f),
-            last,
+            first: first(k, chain, f),
+            last: last + along(k, chain),
         };
         records::put_circuit(buf, k, c);
         k += 1;

@@ -27,13 +27,13 @@ fn limits(t: Tally) -> Tally {
     let t = case(
         t,
         b"case 9, 2048 circuits on 512 links, w = 40",
-        planned(104, 53248, 26624),
+        planned(52, 26624, 26624),
         runs::many(512, 40, 2048, 512),
     );
     let t = case(
         t,
         b"case 9, 2048 circuits on 1 of 512 links, w = 1",
-        planned(4096, 4096, 2048),
+        planned(2048, 2048, 2048),
         runs::many(512, 1, 2048, 1),
     );
     case(
@@ -44,13 +44,18 @@ fn limits(t: Tally) -> Tally {
     )
 }
 
-// A circuit with the given ends.
-fn ends(first: u16, last: u16) -> Circuit {
+// A circuit with a number and ends.
+fn circuit(number: u32, first: u16, last: u16) -> Circuit {
     Circuit {
-        number: 7,
+        number,
         first,
         last,
     }
+}
+
+// A circuit with the given ends.
+fn ends(first: u16, last: u16) -> Circuit {
+    circuit(7, first, last)
 }
 
 // The ends of a circuit, on a line of 5 links.
@@ -58,7 +63,7 @@ fn last_links(t: Tally) -> Tally {
     let t = case(
         t,
         b"case 10, first = last = n",
-        planned(2, 2, 1),
+        planned(1, 1, 1),
         runs::one(5, 1, ends(5, 5)),
     );
     let t = case(
@@ -83,11 +88,7 @@ fn last_links(t: Tally) -> Tally {
 
 // A circuit on link 1 with the given number.
 fn numbered(number: u32) -> Circuit {
-    Circuit {
-        number,
-        first: 1,
-        last: 1,
-    }
+    circuit(number, 1, 1)
 }
 
 // The numbers of the circuits.
@@ -113,7 +114,7 @@ fn numbers(t: Tally) -> Tally {
     case(
         t,
         b"case 12, number 4294967295",
-        planned(2, 2, 1),
+        planned(1, 1, 1),
         runs::one(1, 1, numbered(4294967295)),
     )
 }
@@ -121,7 +122,7 @@ fn numbers(t: Tally) -> Tally {
 // Whole records and too few or too many bytes.
 fn lengths(t: Tally) -> Tally {
     let t = case(t, b"a file of 7 bytes", refused(1, 0), runs::bytes(7));
-    let t = case(t, b"a file of 8 bytes", planned(2, 2, 1), runs::bytes(8));
+    let t = case(t, b"a file of 8 bytes", planned(1, 1, 1), runs::bytes(8));
     case(t, b"a file of 9 bytes", refused(1, 0), runs::bytes(9))
 }
 
@@ -129,27 +130,49 @@ fn lengths(t: Tally) -> Tally {
 fn rooms(t: Tally) -> Tally {
     let t = case(
         t,
-        b"room for 16, 8 and 8 bytes",
-        planned(2, 2, 1),
-        runs::lent(sized(16, 8, 8)),
+        b"room for 8, 8 and 8 bytes",
+        planned(1, 1, 1),
+        runs::lent(sized(8, 8, 8)),
     );
     let t = case(
         t,
-        b"fibre list of 15 bytes",
+        b"fibre list of 7 bytes",
         refused(8, 0),
-        runs::lent(sized(15, 8, 8)),
+        runs::lent(sized(7, 8, 8)),
     );
     let t = case(
         t,
         b"assignment list of 7 bytes",
         refused(9, 0),
-        runs::lent(sized(16, 7, 8)),
+        runs::lent(sized(8, 7, 8)),
     );
     case(
         t,
         b"work area of 7 bytes",
         refused(10, 0),
-        runs::lent(sized(16, 8, 7)),
+        runs::lent(sized(8, 8, 7)),
+    )
+}
+
+// Which runs of links become fibres. Where ten pairs leave two fibres, the bytes behind these stay.
+fn stretches(t: Tally) -> Tally {
+    let t = case(
+        t,
+        b"R-1, a gap splits",
+        planned(3, 5, 5),
+        runs::three(circuit(1, 4, 4), circuit(2, 1, 2), circuit(3, 2, 3)),
+    );
+    let t = case(
+        t,
+        b"R-1, circuits that abut join",
+        planned(1, 5, 5),
+        runs::three(circuit(1, 1, 1), circuit(2, 2, 2), circuit(3, 3, 5)),
+    );
+    case(
+        t,
+        b"R-1, two fibres of ten pairs",
+        planned(2, 40, 30),
+        runs::chain(),
     )
 }
 
@@ -175,5 +198,6 @@ fn main() {
     let t = numbers(t);
     let t = lengths(t);
     let t = rooms(t);
+    let t = stretches(t);
     report::close(precedence(t));
 }

@@ -16,10 +16,11 @@ pub struct Room {
     pub work: usize,
 }
 
-// A file of circuits: how many, their last link, how many bytes are given, and the faults.
+// A file of circuits: how many, the last link of the first, whether the others stand along a chain, how many bytes are given, and the faults.
 pub struct File {
     pub many: usize,
     pub last: u16,
+    pub chain: bool,
     pub bytes: usize,
     pub faults: Faults,
 }
@@ -74,16 +75,16 @@ fn astray(bytes: &[u8], zeroed: usize, kept: usize) -> usize
     count
 }
 
-// How many bytes so many records take; no plan has more than 4,096.
+// How many bytes so many records take; no plan has more than 2,048.
 fn taken(records: usize) -> usize {
-    8 * least(records, 4096)
+    8 * least(records, 2048)
 }
 
 // What came of an answer on n links and m circuits.
 fn seen(a: Answer, n: usize, m: usize, fibres: &[u8], assigns: &[u8], work: &[u8]) -> Came {
     match a {
         Answer::Planned(c) => {
-            let k = 4 * least(n, 1000) + 4 * least(m, 4096);
+            let k = 4 * least(n, 1000) + 4 * least(m, 2048);
             Came {
                 told: crate::report::planned(c.fibres, c.total, c.floor),
                 fibres: astray(fibres, 0, taken(c.fibres)),
@@ -128,7 +129,7 @@ fn lend(
 
 // Plans over areas that are a few bytes longer than any plan needs.
 fn run(n: usize, w: usize, circuits: &[u8], r: Room) -> Came {
-    let mut fibres = [7u8; 32800];
+    let mut fibres = [7u8; 16400];
     let mut assigns = [7u8; 16400];
     let mut work = [7u8; 10300];
     lend(n, w, circuits, r, &mut fibres, &mut assigns, &mut work)
@@ -136,7 +137,7 @@ fn run(n: usize, w: usize, circuits: &[u8], r: Room) -> Came {
 
 // All of the areas.
 fn ample() -> Room {
-    sized(32800, 16400, 10300)
+    sized(16400, 16400, 10300)
 }
 
 // One circuit.
@@ -155,19 +156,19 @@ pub fn three(a: Circuit, b: Circuit, c: Circuit) -> Came {
     run(5, 1, &buf, ample())
 }
 
-// Plans the first bytes of a file of circuits from link 1 to `last`.
+// Plans the first bytes of a file of circuits.
 fn file_in(n: usize, w: usize, file: File, r: Room, buf: &mut [u8]) -> Came
-    requires { ⌜ (file .many ≤ 2049) × (8 * file .many ≤ length (now buf)) ⌝ }
+    requires { ⌜ (file .many ≤ 2049) × (file .last ≤ 512) × (8 * file .many ≤ length (now buf)) ⌝ }
 {
     let faults = file.faults;
-    inputs::fill(buf, file.many, file.last, faults);
+    inputs::fill(buf, file.many, file.last, file.chain, faults);
     let e = least(file.bytes, buf.len());
     run(n, w, &buf[0..e], r)
 }
 
 // Plans a file of circuits.
 fn file_of(n: usize, w: usize, file: File, r: Room) -> Came
-    requires { ⌜ file .many ≤ 2049 ⌝ }
+    requires { ⌜ (file .many ≤ 2049) × (file .last ≤ 512) ⌝ }
 {
     let mut buf = [0u8; 16393];
     file_in(n, w, file, r, &mut buf)
@@ -175,11 +176,12 @@ fn file_of(n: usize, w: usize, file: File, r: Room) -> Came
 
 // So many circuits, each from link 1 to `last`, of which so many bytes are given.
 fn faultless(many: usize, last: u16, bytes: usize) -> File
-    ensures { λ r. ⌜ r .many ≡ many ⌝ }
+    ensures { λ r. ⌜ (r .many ≡ many) × (r .last ≡ last) ⌝ }
 {
     File {
         many,
         last,
+        chain: false,
         bytes,
         faults: Faults { one: 0, other: 0 },
     }
@@ -192,9 +194,25 @@ pub fn none(n: usize, w: usize) -> Came {
 
 // So many circuits, each from link 1 to `last`.
 pub fn many(n: usize, w: usize, many: usize, last: u16) -> Came
-    requires { ⌜ many ≤ 2049 ⌝ }
+    requires { ⌜ (many ≤ 2049) × (last ≤ 512) ⌝ }
 {
     file_of(n, w, faultless(many, last, 8 * many), ample())
+}
+
+// Circuits [1, 3], [3, 5], .., [19, 21], each twice but the first, with 2 wavelengths.
+pub fn chain() -> Came {
+    file_of(
+        512,
+        2,
+        File {
+            many: 19,
+            last: 3,
+            chain: true,
+            bytes: 152,
+            faults: Faults { one: 0, other: 0 },
+        },
+        ample(),
+    )
 }
 
 // The first bytes of two records, on one link.
@@ -221,7 +239,7 @@ pub fn faulty(f: Faults) -> Came {
     let m = either(f, 2, 2049, 4);
     let bytes = 8 * m + either(f, 1, 1, 0);
     let r = sized(
-        16 * m - either(f, 8, 1, 0),
+        8 * m - either(f, 8, 1, 0),
         8 * m - either(f, 9, 1, 0),
         4 * n + 4 * m - either(f, 10, 1, 0),
     );
@@ -231,6 +249,7 @@ pub fn faulty(f: Faults) -> Came {
         File {
             many: m,
             last: 2,
+            chain: false,
             bytes,
             faults: f,
         },

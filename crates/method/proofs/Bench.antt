@@ -12,6 +12,7 @@ use Rattle.records.specs.declared.Circuit.{Circuit}
 use Rattle.method.specs.Bench.{AllHold, Least, NoRow, c, cases, clashing, f, g, slips, three}
 use Rattle.method.specs.Demands.{during, inRow}
 use Rattle.method.specs.Line.{Plan, Valid, assigned, circuit, fibreUnder, overlap, spanLength, total, uses}
+use Rattle.method.specs.LitBench.{litCases, litSlips}
 use Rattle.method.specs.Sheet.{load}
 use Rattle.method.proofs.BenchPlans.{tables}
 use Rattle.method.proofs.During.{own-during}
@@ -124,3 +125,11 @@ bench = tables least-five clash-no-row .0
 -- every case of our own table holds
 pub our-bench : AllHold slips
 our-bench = tables least-five clash-no-row .1
+
+-- every case of the bench holds as R-1 has it
+pub lit-bench : AllHold litCases
+lit-bench = tables least-five clash-no-row .2
+
+-- every case of our own table for R-1 holds
+pub our-lit-bench : AllHold litSlips
+our-lit-bench = tables least-five clash-no-row .3

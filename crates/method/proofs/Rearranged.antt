@@ -5,11 +5,14 @@ use mathlib.Core.Path.{_∙_, _≡_, ap, sym}
 use native.Mathlib.Omega.{arith}
 use Rattle.records.specs.declared.Circuit.{Circuit}
 use Rattle.method.specs.Demands.{Rearranged, SamePlan}
-use Rattle.method.specs.Line.{Distinct, Lies, circuit, total}
-use Rattle.method.proofs.Order.{Match, fibres-match, floor-match, plan-match}
+use Rattle.method.specs.Fibres.{plan}
+use Rattle.method.specs.Line.{Distinct, Lies, Plan, assigned, circuit, total}
+use Rattle.method.specs.Lit.{litPlan}
+use Rattle.method.proofs.LitOrder.{lit-fibres-match, lit-plan-match}
+use Rattle.method.proofs.Order.{Match, Twin, fibres-match, floor-match, plan-match}
 
 -- a rearrangement has no gaps, and no number stands twice in it
-pub rearranged : (n : ℕ) (cs ds : List Circuit) → Lies n cs → Distinct cs → Rearranged cs ds → Match cs ds
+rearranged : (n : ℕ) (cs ds : List Circuit) → Lies n cs → Distinct cs → Rearranged cs ds → Match cs ds
 unfolding circuit
 rearranged n cs ds lies once h =
     record {
@@ -27,18 +30,28 @@ rearranged n cs ds lies once h =
       fro = λ j l r. let x = h .fro j l in (x .0, x .2);
     }
 
--- the same records in another file order have the same plan
-pub any-order : (n w : ℕ) (cs ds : List Circuit) → Lies n cs → Distinct cs → Rearranged cs ds → SamePlan n w cs ds
-unfolding circuit
-any-order n w cs ds lies once h =
-    let m = rearranged n cs ds lies once h in
-    record {
-      fibres-same = fibres-match n w cs ds m;
-      total-same = ap total (fibres-match n w cs ds m);
-      floor-same = floor-match n w cs ds m;
-      assigned-same = λ i j a b e.
-          let x = h .fro j b in
-          let z : i ≡ h .back j = once i (h .back j) a (x .0) (e ∙ ap (λ c. c .number) (x .2)) in
-          let l = lies i a in
-          plan-match n w cs ds m i j (record { in-cs = a; in-ds = b; real = omega arith; same = ap (circuit cs) z ∙ sym (x .2) });
-    }
+module _ (n w : ℕ) (cs ds : List Circuit) (lies : Lies n cs) (once : Distinct cs) (h : Rearranged cs ds) where
+  -- two plans with the same fibres that give the same to the same circuit are the same plan
+  same-plan : (p q : Plan) → p .fibres ≡ q .fibres → ((i j : ℕ) → Twin n w cs ds (rearranged n cs ds lies once h) i j → assigned p i ≡ assigned q j)
+      → SamePlan n w cs ds p q
+  unfolding circuit
+  same-plan p q same-fibres same-given =
+      record {
+        fibres-same = same-fibres;
+        total-same = ap total same-fibres;
+        floor-same = floor-match n w cs ds (rearranged n cs ds lies once h);
+        assigned-same = λ i j a b e.
+            let x = h .fro j b in
+            let z : i ≡ h .back j = once i (h .back j) a (x .0) (e ∙ ap (λ c. c .number) (x .2)) in
+            let l = lies i a in
+            same-given i j (record { in-cs = a; in-ds = b; real = omega arith; same = ap (circuit cs) z ∙ sym (x .2) });
+      }
+
+  -- so the plan of the two-phase method is the same
+  pub any-order : SamePlan n w cs ds (plan n w cs) (plan n w ds)
+  unfolding plan
+  any-order = let m = rearranged n cs ds lies once h in same-plan (plan n w cs) (plan n w ds) (fibres-match n w cs ds m) (plan-match n w cs ds m)
+
+  -- and so is R-1's
+  pub lit-any-order : SamePlan n w cs ds (litPlan n w cs) (litPlan n w ds)
+  lit-any-order = let m = rearranged n cs ds lies once h in same-plan (litPlan n w cs) (litPlan n w ds) (lit-fibres-match n w cs ds m) (lit-plan-match n w cs ds m)

@@ -10,20 +10,23 @@ use Rattle.records.specs.declared.Circuit.{Circuit}
 use Rattle.method.specs.Demands.{during, inRow}
 use Rattle.method.specs.Fibres.{floor, plan}
 use Rattle.method.specs.Line.{Assignment, Fibre, Lies, Plan, Valid, circuit, total, uses}
+use Rattle.method.specs.Lit.{litPlan}
 use Rattle.method.specs.Sheet.{load}
 
 -- what a case says
 pub data Case : Type 0 where
-  -- the plan with its total and floor
+  -- the method's plan with its total and floor
   planned : (n w : ℕ) → List Circuit → List Fibre → List Assignment → (length floor : ℕ) → Case
+  -- R-1's plan with its total and floor
+  rented : (n w : ℕ) → List Circuit → List Fibre → List Assignment → (length floor : ℕ) → Case
   -- the least valid length
   least : (w : ℕ) → List Circuit → (length : ℕ) → Case
   -- circuits that are no row of any sheet
   noRow : List Circuit → (inner outer : ℕ) → Case
 
--- the method plans just this
-pub record Planned (n w : ℕ) (cs : List Circuit) (fs : List Fibre) (gs : List Assignment) (t f : ℕ) : Type 0 where
-  pub the-plan : plan n w cs ≡ record { fibres = fs; assignments = gs }
+-- plan p is just this
+pub record Planned (p : Plan) (n w : ℕ) (cs : List Circuit) (fs : List Fibre) (gs : List Assignment) (t f : ℕ) : Type 0 where
+  pub the-plan : p ≡ record { fibres = fs; assignments = gs }
   pub the-total : total fs ≡ t
   pub the-floor : floor n w cs ≡ f
 
@@ -47,7 +50,8 @@ pub record NoRow (cs : List Circuit) (inner outer : ℕ) : Type 0 where
 
 -- a case holds
 abbrev pub Holds : Case → Type 0
-Holds (planned n w cs fs gs t f) = Planned n w cs fs gs t f
+Holds (planned n w cs fs gs t f) = Planned (plan n w cs) n w cs fs gs t f
+Holds (rented n w cs fs gs t f) = Planned (litPlan n w cs) n w cs fs gs t f
 Holds (least w cs t) = Least w cs t
 Holds (noRow cs inner outer) = NoRow cs inner outer
 

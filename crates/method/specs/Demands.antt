@@ -21,13 +21,12 @@ pub record Rearranged (cs ds : List Circuit) : Type 0 where
   pub to : (i : ℕ) → i < length cs → (there i < length ds) × (back (there i) ≡ i) × (circuit cs i ≡ circuit ds (there i))
   pub fro : (j : ℕ) → j < length ds → (back j < length cs) × (there (back j) ≡ j) × (circuit ds j ≡ circuit cs (back j))
 
--- the same plan for two files: fibres, total and floor, and each circuit, by its number, has the same fibre and wavelength
-pub record SamePlan (n w : ℕ) (cs ds : List Circuit) : Type 0 where
-  pub fibres-same : fibres n w cs ≡ fibres n w ds
-  pub total-same : total (fibres n w cs) ≡ total (fibres n w ds)
+-- plan p of file cs and plan q of file ds are the same: fibres, total and floor, and each circuit, by its number, has the same fibre and wavelength
+pub record SamePlan (n w : ℕ) (cs ds : List Circuit) (p q : Plan) : Type 0 where
+  pub fibres-same : p .fibres ≡ q .fibres
+  pub total-same : total (p .fibres) ≡ total (q .fibres)
   pub floor-same : floor n w cs ≡ floor n w ds
-  pub assigned-same : (i j : ℕ) → i < length cs → j < length ds → (circuit cs i) .number ≡ (circuit ds j) .number
-      → assigned (plan n w cs) i ≡ assigned (plan n w ds) j
+  pub assigned-same : (i j : ℕ) → i < length cs → j < length ds → (circuit cs i) .number ≡ (circuit ds j) .number → assigned p i ≡ assigned q j
 
 -- demand 2: the plan is valid, it carries every circuit, and file order does not matter
 pub record Demand2 (n w : ℕ) (cs : List Circuit) : Type 0 where
@@ -41,7 +40,7 @@ pub record Demand2 (n w : ℕ) (cs : List Circuit) : Type 0 where
   pub fibres-on-line : (q : ℕ) → q < length (fibres n w cs)
       → (1 ≤ (getD (fibres n w cs) q noFibre) .first) × ((getD (fibres n w cs) q noFibre) .first ≤ (getD (fibres n w cs) q noFibre) .last) × ((getD (fibres n w cs) q noFibre) .last ≤ n)
   -- the same records in another file order give the same plan
-  pub any-order : (ds : List Circuit) → Distinct cs → Rearranged cs ds → SamePlan n w cs ds
+  pub any-order : (ds : List Circuit) → Distinct cs → Rearranged cs ds → SamePlan n w cs ds (plan n w cs) (plan n w ds)
   -- that first and second are of one row "and one run" makes no difference
   pub run-idle : (j : ℕ) → j < length cs → onFirst cs (rows n w cs) (pairOf n w cs (rows n w cs)) j ≡ onFirst cs (rows n w cs) (λ d. 0) j
 

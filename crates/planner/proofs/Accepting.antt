@@ -8,9 +8,11 @@ use Rattle.records.specs.Records.{circuitsOf}
 use Rattle.records.specs.declared.Line.{Line}
 use Rattle.records.proofs.Files.{circuitsIn-at, length-circuitsIn}
 use Rattle.method.specs.Line.{Distinct, Lies, circuit, nobody}
+use Rattle.method.specs.LitDemands.{LitDemand}
+use Rattle.method.proofs.LitDemands.{lit-demand}
 use Rattle.refusals.specs.Given.{NoneApplies}
 use Rattle.refusals.specs.Table.{fileRows, lineRows, recordRows, circuitRows, areaRows, planTable}
-use Rattle.refusals.proofs.Passed.{passed1, passed10, passed2, passed3, passed4, passed6, passed7, passed8, passed9}
+use Rattle.refusals.proofs.Passed.{passed-room, passed1, passed2, passed3, passed4, passed6, passed7}
 use Rattle.refusals.proofs.Pieces.{none-first, none-left, none-rest, none-right}
 use Rattle.rows.specs.Accepted.{Accepted}
 
@@ -65,6 +67,10 @@ module _ (line : Line) (s : List ℕ) (passed : NoneApplies (circuitRows line s)
         waves = (v .0, omega arith);
       }
 
+  -- all that is promised of its plan
+  pub promised : LitDemand (line .links) (line .wavelengths) (circuitsOf s)
+  promised = lit-demand (line .links) (line .wavelengths) (circuitsOf s) lies (accepted .waves .0)
+
 module _ (line : Line) (s : List ℕ) (fibres assigns work : ℕ) (passed : NoneApplies (planTable line s fibres assigns work)) where
   -- no test of the circuits applies
   pub of-circuits : NoneApplies (circuitRows line s)
@@ -77,11 +83,11 @@ module _ (line : Line) (s : List ℕ) (fibres assigns work : ℕ) (passed : None
   of-areas = none-left (areaRows (line .links) (length s / 8) fibres assigns work) _ (none-right (circuitRows line s) _ passed)
 
   -- the lent areas are long enough
-  pub rooms : (16 * (length s / 8) ≤ fibres) × (8 * (length s / 8) ≤ assigns) × (4 * line .links + 4 * (length s / 8) ≤ work)
+  pub rooms : (8 * (length s / 8) ≤ fibres) × (8 * (length s / 8) ≤ assigns) × (4 * line .links + 4 * (length s / 8) ≤ work)
   unfolding areaRows
   rooms =
       let m = length s / 8 in (
-        passed8 16 m fibres (none-first _ _ of-areas),
-        passed9 m assigns (none-first _ _ (none-rest _ _ of-areas)),
-        passed10 (line .links) m work (none-first _ _ (none-rest _ _ (none-rest _ _ of-areas))),
+        passed-room 8 (8 * m) fibres (none-first _ _ of-areas),
+        passed-room 9 (8 * m) assigns (none-first _ _ (none-rest _ _ of-areas)),
+        passed-room 10 (4 * line .links + 4 * m) work (none-first _ _ (none-rest _ _ (none-rest _ _ of-areas))),
       )

@@ -6,20 +6,18 @@ use mathlib.Core.List.{List, _++_}
 use mathlib.Core.Option.{some}
 use mathlib.Core.Path.{_∙_, _≡_, ap, refl, subst, sym}
 use native.Mathlib.Omega.{arith}
-use Rattle.basics.proofs.Tables.{length-each}
 use Rattle.records.specs.Records.{assignmentBytes, circuitsOf, numberIn, recordAt}
 use Rattle.records.specs.declared.Line.{Line}
 use Rattle.records.proofs.Files.{circuitsIn-at, length-circuitsIn}
 use Rattle.method.specs.Demands.{SamePlan}
-use Rattle.method.specs.Fibres.{assignments, fibres, given, plan}
+use Rattle.method.specs.Fibres.{floor, plan}
 use Rattle.method.specs.Line.{Plan, Valid, assigned, circuit, fibresOver, noFibre, nobody, total, unassigned}
-use Rattle.method.specs.Sheet.{rows}
-use Rattle.method.proofs.Demands.{demand-2, demand-3}
-use Rattle.refusals.specs.Given.{Given, NoneApplies}
+use Rattle.method.specs.LitDemands.{LitDemand, LitRules, litFibres}
+use Rattle.refusals.specs.Given.{NoneApplies}
 use Rattle.refusals.specs.Refusals.{Refusal, refusedWith}
 use Rattle.refusals.specs.declared.Verdict.{Verdict}
 use Rattle.refusals.specs.declared.Verdict.the-variants.{Checked, Refused as Failed}
-use Rattle.refusals.proofs.First.{refused-same, verdict-given, verdict-passed, verdict-passes, verdict-refused}
+use Rattle.refusals.proofs.First.{verdict-given, verdict-passed, verdict-passes, verdict-refused}
 use Rattle.register.specs.Areas.{Areas, zeroedTo}
 use Rattle.register.specs.Lists.{assignmentList, assignmentRecord, assignmentRecords, countsOf, fibreList, fibreRecord, fibreRecords}
 use Rattle.register.specs.Plans.{planIn}
@@ -27,16 +25,11 @@ use Rattle.register.specs.declared.Counts.{Counts}
 use Rattle.register.proofs.Reading.{assignment-read, assignment-record, fibre-read, fibre-record, length-assignmentRecords, length-fibreRecords, plan-read}
 use Rattle.rows.specs.Accepted.{Accepted}
 use Rattle.planner.specs.Outcome.{Outcome, answerBy, ifAccepted, judged, numbersOf, planOf, refusalOf, tableFor}
-use Rattle.planner.specs.Seen.{SameSheet, Seen, Seen1, Seen2, Seen3, TwoOrders, held, used}
+use Rattle.planner.specs.Seen.{SameSheet, Seen, Seen1, Seen2, Seen3, TwoOrders, held}
 use Rattle.planner.specs.declared.Answer.{Answer}
-use Rattle.planner.specs.declared.Answer.the-variants.{Planned, Refused}
-use Rattle.planner.proofs.Accepting.{accepted, of-circuits}
+use Rattle.planner.specs.declared.Answer.the-variants.{Planned}
+use Rattle.planner.proofs.Accepting.{accepted, of-circuits, promised}
 use Rattle.planner.proofs.Reordered.{reordered-passes}
-
--- the plan gives something to each circuit
-pub length-assignments : (n w : ℕ) (cs : List _) → length (assignments n w cs) ≡ length cs
-unfolding assignments
-length-assignments n w cs = length-each (given n w cs (rows n w cs)) 0 (length cs)
 
 module _ (line : Line) (s : List ℕ) (before after : Areas) (answer : Answer) (o : Outcome line s before after answer) where
   -- a refusal is the verdict's, and changes nothing
@@ -53,7 +46,7 @@ module _ (line : Line) (s : List ℕ) (before after : Areas) (answer : Answer) (
           let z = sym (ap refusalOf a) ∙ e in
           (q ∙ (let y : Failed k p ≡ refusedWith r = cc in y), λ i. record { fibres = f i; assigns = g i; work = h i })
 
-  -- a planned answer has the method's numbers, and the lists are written
+  -- a planned answer has the plan's numbers, and the lists are written
   planned-so : (counts : Counts) → answer ≡ Planned counts
       → NoneApplies (tableFor line s before) × (counts ≡ numbersOf line s) × (after .fibres ≡ fibreList 0 ((planOf line s) .fibres) (before .fibres))
       × (after .assigns ≡ assignmentList 0 (circuitsOf s) ((planOf line s) .assignments) (before .assigns))
@@ -89,21 +82,24 @@ module _ (line : Line) (s : List ℕ) (before after : Areas) (answer : Answer) (
     took : Accepted (line .links) (line .wavelengths) (length s / 8) s
     took = accepted line s (of-circuits line s _ _ _ (planned-so counts e .0))
 
+    -- what is promised of the plan
+    due : LitDemand (line .links) (line .wavelengths) (circuitsOf s)
+    due = promised line s (of-circuits line s _ _ _ (planned-so counts e .0))
+
     -- how many circuits
     many : length (circuitsOf s) ≡ length s / 8
     many = length-circuitsIn (length s / 8) s
 
     -- each has an assignment
     many-given : length ((planOf line s) .assignments) ≡ length (circuitsOf s)
-    unfolding plan
-    many-given = length-assignments (line .links) (line .wavelengths) (circuitsOf s)
+    many-given = due .rules .valid .all-assigned
 
     -- how many fibres
     pub fibre-count : counts .fibres ≡ length ((planOf line s) .fibres)
     unfolding countsOf
     fibre-count = ap (λ (c : Counts). c .fibres) (planned-so counts e .1)
 
-    -- the lists hold the method's plan
+    -- the lists hold the plan
     read-back : held line s before after counts ≡ planOf line s
     read-back =
         let p = planned-so counts e in
@@ -113,6 +109,11 @@ module _ (line : Line) (s : List ℕ) (before after : Areas) (answer : Answer) (
     total-is : counts .total ≡ total ((planOf line s) .fibres)
     unfolding countsOf
     total-is = ap (λ (c : Counts). c .total) (planned-so counts e .1)
+
+    -- the floor is that of the circuits
+    floor-is : counts .floor ≡ floor (line .links) (line .wavelengths) (circuitsOf s)
+    unfolding countsOf
+    floor-is = ap (λ (c : Counts). c .floor) (planned-so counts e .1)
 
     -- the fibre list starts with the records of the fibres
     pub fibres-are : after .fibres ≡ fibreRecords 0 ((planOf line s) .fibres) ++ drop (8 * counts .fibres) (before .fibres)
@@ -152,13 +153,14 @@ module _ (line : Line) (s : List ℕ) (before after : Areas) (answer : Answer) (
         let k = 4 * line .links + 4 * (length s / 8) in
         record {
           the-plan = read-back;
-          valid = subst (Valid (line .wavelengths) cs) (sym read-back) (demand-2 (line .links) (line .wavelengths) cs (took .file .lies) (took .waves .0) .valid);
+          valid = subst (Valid (line .wavelengths) cs) (sym read-back) (due .rules .valid);
+          rules = subst (LitRules (line .links) (line .wavelengths) cs (plan (line .links) (line .wavelengths) cs)) (sym read-back) (due .rules);
           numbered = λ i h. fibre-read (0 + suc i) (getD (p .fibres) i noFibre) (recordAt (after .fibres) i) (fibre-at i h) .0 ∙ omega arith;
           in-file-order = λ j h.
               assignment-read (getD cs j nobody) (getD (p .assignments) j unassigned) (recordAt (after .assigns) j) (assignment-at j h) .0
               ∙ ap (λ c. c .number) (circuitsIn-at (length s / 8) s j nobody h);
           the-total = total-is ∙ sym (ap (λ (q : Plan). total (q .fibres)) read-back);
-          the-floor = ap (λ (c : Counts). c .floor) (planned-so counts e .1);
+          the-floor = floor-is;
           fibres-kept =
               ap (drop (8 * counts .fibres)) fibres-are
               ∙ drop-at (fibreRecords 0 (p .fibres)) (drop (8 * counts .fibres) (before .fibres)) (8 * counts .fibres) (omega (arith, length-fibreRecords 0 (p .fibres), fibre-count));
@@ -172,12 +174,15 @@ module _ (line : Line) (s : List ℕ) (before after : Areas) (answer : Answer) (
 
     -- demand 3
     pub seen-3 : Seen3 line s before after counts
-    unfolding plan
+    unfolding litFibres
     seen-3 =
-        let d = demand-3 (line .links) (line .wavelengths) (circuitsOf s) (took .file .lies) (took .waves .0) in
+        let over : (i : ℕ) → fibresOver ((held line s before after counts) .fibres) i ≡ fibresOver ((planOf line s) .fibres) i = λ i. ap (λ (q : Plan). fibresOver (q .fibres) i) read-back in
         record {
-          twice-over = λ p v i a b. omega (arith, ap (λ (q : Plan). fibresOver (q .fibres) i) read-back, d .twice-over p v i a b);
-          twice-total = λ p v. omega (arith, total-is, d .twice-total p v);
+          twice-over = λ p v i a b. omega (arith, over i, due .twice-over p v i a b);
+          twice-total = λ p v. omega (arith, total-is, due .twice-total p v);
+          over-few = λ i a b. omega (arith, over i, due .over-few i a b);
+          total-few = omega (arith, total-is, floor-is, due .total-few);
+          few-fibres = omega (arith, fibre-count, due .few-fibres, many);
         }
 
 -- every call of `plan` meets the demands
@@ -197,10 +202,10 @@ module _ (line : Line) (s s' : List ℕ) (before after before' after' : Areas) (
   passed = planned-so line s before after answer (orders .one) counts e .0
 
   -- the plans are the same
-  alike : SamePlan (line .links) (line .wavelengths) (circuitsOf s) (circuitsOf s')
+  alike : SamePlan (line .links) (line .wavelengths) (circuitsOf s) (circuitsOf s') (planOf line s) (planOf line s')
   alike =
-      let a = accepted line s (of-circuits line s _ _ _ passed) in
-      demand-2 (line .links) (line .wavelengths) (circuitsOf s) (a .file .lies) (a .waves .0) .any-order (circuitsOf s') (a .file .distinct) (orders .same)
+      let p = of-circuits line s _ _ _ passed in
+      promised line s p .any-order (circuitsOf s') (accepted line s p .file .distinct) (orders .same)
 
   -- the second call's tests leave it too
   passed' : NoneApplies (tableFor line s' before')
@@ -208,7 +213,7 @@ module _ (line : Line) (s s' : List ℕ) (before after before' after' : Areas) (
 
   -- so it is planned, with the same numbers
   planned-too : answer' ≡ Planned counts
-  unfolding countsOf plan
+  unfolding countsOf
   planned-too =
       let p = seen-1 line s' before' after' answer' (orders .two) .otherwise-planned passed' in
       let numbers : numbersOf line s ≡ numbersOf line s' =
@@ -225,7 +230,7 @@ module _ (line : Line) (s s' : List ℕ) (before after before' after' : Areas) (
 
   -- and with the same fibre records, and the same assignment record for each circuit
   pub same-sheet : SameSheet s s' after after' counts answer'
-  unfolding assigned plan circuit assignmentRecord
+  unfolding assigned circuit assignmentRecord
   same-sheet =
       let fs = (planOf line s) .fibres in
       let fs' = (planOf line s') .fibres in

@@ -14,7 +14,6 @@ use Rattle.refusals.proofs.First.{verdict-passed}
 use Rattle.register.specs.Areas.{Areas, zeroedTo}
 use Rattle.register.specs.Lists.{fibreList, assignmentList}
 use Rattle.register.specs.declared.Counts.{Counts}
-use Rattle.planner.specs.declared.Answer.{Answer}
 use Rattle.planner.specs.declared.Answer.the-variants.{Planned, Refused}
 use Rattle.planner.specs.Outcome.{tableFor, judged, planOf, numbersOf, answerBy, ifAccepted, Outcome}
 use Rattle.planner.specs.Settled.{Admitted, Settled}

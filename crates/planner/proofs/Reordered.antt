@@ -1,5 +1,5 @@
 -- The same records in another file order pass the same tests. Assumes nothing.
-use Prim.Native.Nat.{_%_, _*_, _+_, _/_, _<_, ℕ}
+use Prim.Native.Nat.{_%_, _/_, _<_, ℕ}
 use borrow.Author.Tests.{ne-eqb}
 use lib.Dec.{eqb, ltb}
 use lib.ListN.{length}

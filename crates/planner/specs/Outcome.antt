@@ -8,7 +8,8 @@ use lib.ListN.{length}
 use Rattle.records.specs.Records.{circuitsOf}
 use Rattle.records.specs.declared.Line.{Line}
 use Rattle.method.specs.Line.{Plan}
-use Rattle.method.specs.Fibres.{floor, plan}
+use Rattle.method.specs.Fibres.{floor}
+use Rattle.method.specs.Lit.{litPlan}
 use Rattle.refusals.specs.Refusals.{Refusal, refusalIn, ifRefused}
 use Rattle.refusals.specs.Table.{Row, verdict, planTable}
 use Rattle.refusals.specs.declared.Verdict.{Verdict}
@@ -35,9 +36,9 @@ tableFor line s lent = planTable line s (length (lent .fibres)) (length (lent .a
 unfoldable pub judged : Line → List ℕ → Areas → Verdict
 judged line s lent = verdict (tableFor line s lent) (length s / 8)
 
--- the method's plan of a file of circuits on a line
+-- the plan of R-1, for a file of circuits on a line
 abbrev pub planOf : Line → List ℕ → Plan
-planOf line s = plan (line .links) (line .wavelengths) (circuitsOf s)
+planOf line s = litPlan (line .links) (line .wavelengths) (circuitsOf s)
 
 -- its three numbers
 abbrev pub numbersOf : Line → List ℕ → Counts

@@ -9,8 +9,10 @@ use lib.ListN.{length, take, drop, replicate}
 use Rattle.records.specs.Records.{recordAt, circuitsOf, numberIn}
 use Rattle.records.specs.declared.Line.{Line}
 use Rattle.method.specs.Line.{fibresOver, total, Plan, Valid}
-use Rattle.method.specs.Fibres.{floor}
+use Rattle.method.specs.Sheet.{need}
+use Rattle.method.specs.Fibres.{floor, plan}
 use Rattle.method.specs.Demands.{Rearranged}
+use Rattle.method.specs.LitDemands.{LitRules}
 use Rattle.refusals.specs.Refusals.{Refusal}
 use Rattle.refusals.specs.Given.{Given, NoneApplies}
 use Rattle.register.specs.Areas.{Areas}
@@ -36,10 +38,11 @@ module _ (line : Line) (s : List ℕ) (before after : Areas) where
   abbrev pub used : ℕ
   used = 4 * line .links + 4 * (length s / 8)
 
-  -- demand 2: the lists hold the method's plan, numbered and in file order; it is valid; and the rest of the areas is as promised
+  -- demand 2: the lists hold the plan of R-1, numbered and in file order; it is valid, and beside 01's plan it keeps the rules of R-1; and the rest of the areas is as promised
   pub record Seen2 (counts : Counts) : Type 0 where
     pub the-plan : held counts ≡ planOf line s
     pub valid : Valid (line .wavelengths) (circuitsOf s) (held counts)
+    pub rules : LitRules (line .links) (line .wavelengths) (circuitsOf s) (plan (line .links) (line .wavelengths) (circuitsOf s)) (held counts)
     pub numbered : Numbered (counts .fibres) (after .fibres)
     pub in-file-order : InFileOrder (length s / 8) s (after .assigns)
     pub the-total : counts .total ≡ total ((held counts) .fibres)
@@ -49,11 +52,17 @@ module _ (line : Line) (s : List ℕ) (before after : Areas) where
     pub work-zeroed : take used (after .work) ≡ replicate used 0
     pub work-kept : drop used (after .work) ≡ drop used (before .work)
 
-  -- demand 3: at most twice the fibres over each link, and twice the length, of any valid plan whatsoever
+  -- demand 3, as R-1 leaves it
   pub record Seen3 (counts : Counts) : Type 0 where
+    -- at most twice the fibres over each link, and twice the length, of any valid plan whatsoever
     pub twice-over : (p : Plan) → Valid (line .wavelengths) (circuitsOf s) p → (i : ℕ) → 1 ≤ i → i ≤ line .links
         → fibresOver ((held counts) .fibres) i ≤ 2 * fibresOver (p .fibres) i
     pub twice-total : (p : Plan) → Valid (line .wavelengths) (circuitsOf s) p → counts .total ≤ 2 * total (p .fibres)
+    -- over link i at most 2 c(i) fibres, and a total of at most twice the floor
+    pub over-few : (i : ℕ) → 1 ≤ i → i ≤ line .links → fibresOver ((held counts) .fibres) i ≤ 2 * need (line .wavelengths) (circuitsOf s) i
+    pub total-few : counts .total ≤ 2 * counts .floor
+    -- at most one fibre for each circuit
+    pub few-fibres : counts .fibres ≤ length s / 8
 
   -- one call of `plan`: demand 1 in any case, demands 2 and 3 of the three numbers that it answers
   pub record Seen (answer : Answer) : Type 0 where

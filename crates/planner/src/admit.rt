@@ -11,7 +11,7 @@ fn of_areas(n: usize, m: usize, fibres: usize, assigns: usize, work: usize) -> V
     requires { ⌜ (n ≤ 512) × (m ≤ 2048) ⌝ }
     ensures { λ r. ⌜ r ≡ verdict (areaRows n m fibres assigns work) m ⌝ }
 {
-    let t8 = refusals::fibre_room(fibres, m, 16);
+    let t8 = refusals::fibre_room(fibres, m);
     let Verdict::Checked(_) = t8 else {
         return t8;
     };

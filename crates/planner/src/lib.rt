@@ -2,7 +2,7 @@
 use records::Line;
 use refusals::Verdict;
 use register::Counts;
-use strands::Job;
+use register::Job;
 ghost use Rattle.register.specs.Areas.{areas};
 ghost use Rattle.planner.specs.Outcome.{Outcome};
 ghost use Rattle.planner.specs.Settled.{Admitted, Settled};

@@ -1,36 +1,32 @@
 -- After `plan` the lists hold what the answer counts, and the text made of them is that of the sheet. Assumes nothing.
-use Prim.Native.Nat.{ℕ, zero, suc, _+_, _*_, _/_, _<_, _≤_}
+use Prim.Native.Nat.{ℕ, zero, suc, _+_, _*_, _/_, _≤_}
 use mathlib.Core.Path.{_≡_, refl, ap, subst, sym, _∙_}
 use mathlib.Core.List.{List, [], _++_, append-nil}
 use native.Mathlib.Omega.{arith}
-use lib.ListN.{length, drop, getD}
+use lib.ListN.{length, drop}
 use Rattle.records.specs.Records.{assignmentOf, circuitsOf, fibreOf, recordAt}
 use Rattle.records.specs.declared.Circuit.{Circuit}
 use Rattle.records.specs.declared.Line.{Line}
 use Rattle.records.proofs.Files.{length-circuitsIn}
-use Rattle.method.specs.Fibres.{floor, pairs, fibres, plan}
-use Rattle.method.specs.Line.{Assignment, Fibre, Plan, total}
-use Rattle.method.proofs.Few.{few-pairs}
-use Rattle.method.proofs.FibreLists.{length-twice}
-use Rattle.method.proofs.Links.{lies-there}
+use Rattle.method.specs.Fibres.{floor}
+use Rattle.method.specs.Line.{Assignment, Fibre, total}
+use Rattle.method.specs.LitDemands.{LitDemand, litFibres}
 use Rattle.refusals.specs.Given.{NoneApplies}
 use Rattle.refusals.specs.Table.{verdict, circuitRows, areaRows, planTable}
 use Rattle.refusals.specs.declared.Verdict.{Verdict}
 use Rattle.refusals.specs.declared.Verdict.the-variants.{Checked, Refused as Failed}
 use Rattle.refusals.proofs.Chain.{piece-gives}
 use Rattle.refusals.proofs.First.{verdict-passed, verdict-passes}
-use Rattle.refusals.proofs.Passed.{passes8, passes9, passes10}
+use Rattle.refusals.proofs.Passed.{passes-room}
 use Rattle.refusals.proofs.Pieces.{none-both, none-end, none-more}
 use Rattle.register.specs.Areas.{Areas}
 use Rattle.register.specs.Lists.{countsOf, fibreList, fibreRecords, assignmentList, assignmentRecords}
-use Rattle.register.specs.declared.Counts.{Counts}
 use Rattle.register.proofs.Reading.{assignment-record, fibre-record}
 use Rattle.rows.specs.Accepted.{Accepted}
 use Rattle.planner.specs.declared.Answer.{Answer}
 use Rattle.planner.specs.declared.Answer.the-variants.{Planned, Refused}
 use Rattle.planner.specs.Outcome.{Outcome, answerBy, ifAccepted, judged, numbersOf, planOf, tableFor}
-use Rattle.planner.proofs.Accepting.{accepted}
-use Rattle.planner.proofs.Demands.{length-assignments}
+use Rattle.planner.proofs.Accepting.{accepted, promised}
 use Rattle.sheet_text.specs.Text.{circuitLine, circuitLines, fibreLine, fibreLines, sheetText, totalLine}
 use Rattle.text.specs.Wrote.{Wrote}
 use Rattle.prints.specs.Sheets.{planText, sheetOf, textBy}
@@ -79,23 +75,23 @@ module _ (line : Line) (s : List ℕ) (before : Areas) (ample : Ample (before .f
         let a = ample .fibres-ample in
         let b = ample .assigns-ample in
         let c = ample .work-ample in
-        none-more _ _ (passes8 16 m (length (before .fibres)) (omega arith))
-        (none-more _ _ (passes9 m (length (before .assigns)) (omega arith))
-        (none-more _ _ (passes10 (line .links) m (length (before .work)) (omega arith)) none-end))
+        none-more _ _ (passes-room 8 (8 * m) (length (before .fibres)) (omega arith))
+        (none-more _ _ (passes-room 9 (8 * m) (length (before .assigns)) (omega arith))
+        (none-more _ _ (passes-room 10 (4 * line .links + 4 * m) (length (before .work)) (omega arith)) none-end))
 
     -- all tests pass
     all-pass : judged line s before ≡ Checked (length s / 8)
     unfolding judged planTable
     all-pass = verdict-passes (tableFor line s before) (length s / 8) (none-both (circuitRows line s) _ passed (none-both _ _ areas-pass none-end))
 
-    -- the plan has at most two fibres for each circuit
-    few-fibres : length ((planOf line s) .fibres) ≤ 2 * (length s / 8)
-    unfolding plan fibres
-    few-fibres =
-        let n = line .links in
-        let w = line .wavelengths in
-        let few = few-pairs n w (circuitsOf s) (lies-there n (circuitsOf s) (took .file .lies)) (took .waves .0) in
-        omega (arith, few, length-twice (pairs n w (circuitsOf s)), many)
+    -- what is promised of the plan
+    due : LitDemand (line .links) (line .wavelengths) (circuitsOf s)
+    due = promised line s passed
+
+    -- it has at most one fibre for each circuit
+    few-fibres : length ((planOf line s) .fibres) ≤ length s / 8
+    unfolding litFibres
+    few-fibres = omega (arith, due .few-fibres, many)
 
   -- what is said of the answer and the two lists that `plan` left, if the verdict of tests 1 to 7 was t: the lists hold what is counted, and the text of it is that of the sheet
   abbrev Said : Verdict → Answer → List ℕ → List ℕ → Type 0
@@ -107,14 +103,14 @@ module _ (line : Line) (s : List ℕ) (before : Areas) (ample : Ample (before .f
       (o : Outcome line s before after answer) where
     -- where the tests pass, the lists start with the records of the plan
     planned : (m : ℕ) → verdict (circuitRows line s) (length s / 8) ≡ Checked m → Said (Checked m) (Planned (numbersOf line s)) (after .fibres) (after .assigns)
-    unfolding countsOf planText sheetText fibreList assignmentList plan
+    unfolding countsOf planText sheetText fibreList assignmentList
     planned m q =
         let passed = verdict-passed (circuitRows line s) (length s / 8) m q .1 in
         let j = all-pass passed in
         let p = planOf line s in
-        let given = length-assignments (line .links) (line .wavelengths) (circuitsOf s) in
+        let given = due passed .rules .valid .all-assigned in
         let few = took passed .file .few in
-        let two = few-fibres passed in
+        let one = few-fibres passed in
         let a = ample .fibres-ample in
         let b = ample .assigns-ample in
         let listed : after .fibres ≡ fibreRecords 0 (p .fibres) ++ drop (8 * length (p .fibres)) (before .fibres) =

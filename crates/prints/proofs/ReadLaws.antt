@@ -1,8 +1,7 @@
 -- What programs that take a text make of what was read. Assumes nothing.
 use Prim.Native.Nat.{ℕ, _-_, _≤_}
-use mathlib.Core.Path.{_≡_, refl, ap, subst, sym, _∙_}
+use mathlib.Core.Path.{_≡_, ap, subst, sym, _∙_}
 use mathlib.Core.List.{List}
-use mathlib.Core.Option.{Option, none, some}
 use native.Mathlib.Omega.{arith}
 use lib.ListN.{length, take}
 use lib.Seq.{length-take-le, take-all}
@@ -16,14 +15,12 @@ use Rattle.entry_text.specs.Entered.{entryOf}
 use Rattle.entry_text.specs.Entries.{tooLong}
 use Rattle.entry_text.specs.Messages.{messageBy, wrongMessage}
 use Rattle.entry_text.specs.Pair.{MadeOf}
-use Rattle.entry_text.specs.declared.Entry.{Entry}
-use Rattle.entry_text.specs.declared.Entry.the-variants.{Wrong}
 use Rattle.entry_text.specs.declared.Made.{Made}
 use Rattle.entry_text.specs.declared.Made.the-variants.{Neither}
 use Rattle.entry_text.proofs.PairLaws.{taken-back}
 use Rattle.prints.specs.Entering.{MadeRead}
 use Rattle.prints.specs.Reads.{fileRead}
-use Rattle.prints.specs.Typed.{noInput, typed, typedBy, typedText}
+use Rattle.prints.specs.Typed.{noInput, typed, typedText}
 use Rattle.prints.proofs.Printing.{lent}
 
 -- what is printed where nothing could be read

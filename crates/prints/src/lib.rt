@@ -15,7 +15,7 @@ pub mod typed;
 
 // The text of an answer, with m circuits and the two lists as the planner left them, at the start of a buffer. What is told: its length.
 fn write_answer(a: Answer, m: usize, fibres: &[u8], assigns: &[u8], out: &mut [u8]) -> usize
-    requires { ⌜ Held a m (now fibres) (now assigns) × (213072 ≤ length (now out)) ⌝ }
+    requires { ⌜ Held a m (now fibres) (now assigns) × (147536 ≤ length (now out)) ⌝ }
     ensures { λ r. ⌜ Wrote (answerText a m (now (fibres .entry)) (now (assigns .entry))) r (now (out .entry)) (now (out .exit)) ⌝ }
 {
     match a {
@@ -41,7 +41,7 @@ fn write_plan(
     work: &mut [u8],
     out: &mut [u8],
 ) -> usize
-    requires { ⌜ Ample (now fibres) (now assigns) (now work) × (213072 ≤ length (now out)) ⌝ }
+    requires { ⌜ Ample (now fibres) (now assigns) (now work) × (147536 ≤ length (now out)) ⌝ }
     ensures { λ r. ⌜ Wrote (sheetOf line (now (circuits .entry))) r (now (out .entry)) (now (out .exit)) ⌝ }
 {
     let a = planner::plan(line, circuits, fibres, assigns, work);
@@ -50,10 +50,10 @@ fn write_plan(
 
 // The text of the sheet of circuit bytes on a line, at the start of a buffer. What is told: its length.
 pub fn write_sheet(line: Line, circuits: &[u8], out: &mut [u8]) -> usize
-    requires { ⌜ 213072 ≤ length (now out) ⌝ }
+    requires { ⌜ 147536 ≤ length (now out) ⌝ }
     ensures { λ r. ⌜ Wrote (sheetOf line (now (circuits .entry))) r (now (out .entry)) (now (out .exit)) ⌝ }
 {
-    let mut fibres = [0u8; 32768];
+    let mut fibres = [0u8; 16384];
     let mut assigns = [0u8; 16384];
     let mut work = [0u8; 10240];
     write_plan(line, circuits, &mut fibres, &mut assigns, &mut work, out)
@@ -61,7 +61,7 @@ pub fn write_sheet(line: Line, circuits: &[u8], out: &mut [u8]) -> usize
 
 // The refusal of a file that cannot be read, at the start of a buffer. What is told: its length.
 fn write_unread(out: &mut [u8]) -> usize
-    requires { ⌜ 213072 ≤ length (now out) ⌝ }
+    requires { ⌜ 147536 ≤ length (now out) ⌝ }
     ensures { λ r. ⌜ Wrote unread r (now (out .entry)) (now (out .exit)) ⌝ }
 {
     sheet_text::write_refusal(11, 0, out)
@@ -75,7 +75,7 @@ pub fn print_sheet(
     circuits: &[u8],
     out: &mut [u8],
 ) -> usize
-    requires { ⌜ SheetRead «got_line» «got_circuits» (now line) (now circuits) × (213072 ≤ length (now out)) ⌝ }
+    requires { ⌜ SheetRead «got_line» «got_circuits» (now line) (now circuits) × (147536 ≤ length (now out)) ⌝ }
     ensures { λ r. ⌜ Wrote (printed (fileRead «got_line» (now (line .entry))) (fileRead «got_circuits» (now (circuits .entry)))) r (now (out .entry)) (now (out .exit)) ⌝ }
 {
     let Moved::Bytes(k) = got_line else {

@@ -51,17 +51,17 @@ fn write_explained(text: &[u8], v: Verdict, out: &mut [u8]) -> usize
 
 // The sheet of circuit bytes on a line, or its refusal with the line of the text. What is told: how many bytes.
 fn write_typed_sheet(text: &[u8], line: Line, circuits: &[u8], out: &mut [u8]) -> usize
-    requires { ⌜ (length (now text) ≤ 1048576) × (213200 ≤ length (now out)) ⌝ }
+    requires { ⌜ (length (now text) ≤ 1048576) × (147664 ≤ length (now out)) ⌝ }
     ensures { λ r. ⌜ Wrote (typedSheet (now (text .entry)) line (now (circuits .entry))) r (now (out .entry)) (now (out .exit)) ⌝ }
 {
-    let a = crate::write_sheet(line, circuits, &mut out[0..213072]);
+    let a = crate::write_sheet(line, circuits, &mut out[0..147536]);
     let v = refusals::admit::of_circuits(line, circuits);
     a + write_explained(text, v, &mut out[a..])
 }
 
 // What is printed for a text, at the start of a buffer; the circuits are read into another, which has room for as many as the planner takes. What is told: how many bytes.
 fn write_typed(text: &[u8], circuits: &mut [u8], out: &mut [u8]) -> usize
-    requires { ⌜ (length (now circuits) ≡ 16384) × (213200 ≤ length (now out)) ⌝ }
+    requires { ⌜ (length (now circuits) ≡ 16384) × (147664 ≤ length (now out)) ⌝ }
     ensures { λ r. ⌜ Wrote (typedText (now (text .entry))) r (now (out .entry)) (now (out .exit)) ⌝ }
 {
     let e = entry_text::enter(text, circuits);
@@ -84,7 +84,7 @@ fn write_typed(text: &[u8], circuits: &mut [u8], out: &mut [u8]) -> usize
 
 // What is printed, from what reading standard input gave. What is told: how many bytes.
 pub fn print_typed(got: Moved, buffer: &[u8], circuits: &mut [u8], out: &mut [u8]) -> usize
-    requires { ⌜ TextRead got (now buffer) × ((length (now circuits) ≡ 16384) × (213200 ≤ length (now out))) ⌝ }
+    requires { ⌜ TextRead got (now buffer) × ((length (now circuits) ≡ 16384) × (147664 ≤ length (now out))) ⌝ }
     ensures { λ r. ⌜ Wrote (typed (fileRead got (now (buffer .entry)))) r (now (out .entry)) (now (out .exit)) ⌝ }
 {
     let Moved::Bytes(k) = got else {

@@ -3,7 +3,7 @@ use Prim.Native.Nat.{ℕ, _+_, _*_}
 use mathlib.Core.Path.{_≡_, _∙_}
 use mathlib.Core.List.{List, _++_}
 use native.Mathlib.Omega.{arith}
-use lib.ListN.{length, drop, length-append}
+use lib.ListN.{length, drop}
 use Rattle.records.specs.Records.{putRecord}
 use Rattle.records.proofs.Parts.{block-more}
 
@@ -13,7 +13,3 @@ unfolding putRecord
 putRecord-more d r out₀ i l e =
     let k : 8 * (i + 1) ≡ 8 * i + 8 = omega arith in
     block-more d r out₀ (8 * i) (8 * i + 8) l (omega arith) ∙ rw k
-
--- i records and one more are i + 1 records
-pub length-more : (d r : List ℕ) (i : ℕ) → length d ≡ 8 * i → length r ≡ 8 → length (d ++ r) ≡ 8 * (i + 1)
-length-more d r i l e = length-append d r ∙ omega arith

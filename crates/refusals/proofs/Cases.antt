@@ -20,12 +20,12 @@ abbrev twelve : List ℕ
 twelve = 4 ∷ 0 ∷ 0 ∷ 0 ∷ 1 ∷ 0 ∷ 1 ∷ 0 ∷ 4 ∷ 0 ∷ 0 ∷ 0 ∷ 1 ∷ 0 ∷ 1 ∷ 0 ∷ 4 ∷ 0 ∷ 0 ∷ 0 ∷ 1 ∷ 0 ∷ 1 ∷ 0 ∷ []
 
 -- case 11: n = 5, w = 2; test 5 comes before test 6, though record 1 fails test 6
-pub case11 : verdict (planTable (on 5 2) eleven 32 16 28) 0 ≡ Refused 5 2
+pub case11 : verdict (planTable (on 5 2) eleven 16 16 28) 0 ≡ Refused 5 2
 unfolding verdict planTable circuitRows fileRows lineRows recordRows areaRows firstRecord badEnds repeats seek any
 case11 = refl
 
 -- case 12: n = 1, w = 1; the second record is the first that repeats
-pub case12 : verdict (planTable (on 1 1) twelve 48 24 16) 0 ≡ Refused 7 2
+pub case12 : verdict (planTable (on 1 1) twelve 24 24 16) 0 ≡ Refused 7 2
 unfolding verdict planTable circuitRows fileRows lineRows recordRows areaRows firstRecord badEnds repeats seek any
 case12 = refl
 
@@ -53,31 +53,31 @@ unfolding verdict planTable circuitRows fileRows lineRows recordRows areaRows
 case9-waves = refl
 
 -- case 10: first = last = n passes
-pub case10 : verdict (planTable (on 5 1) at-five 16 8 24) 0 ≡ Checked 0
+pub case10 : verdict (planTable (on 5 1) at-five 8 8 24) 0 ≡ Checked 0
 unfolding verdict planTable circuitRows fileRows lineRows recordRows areaRows firstRecord badEnds repeats seek any
 case10 = refl
 
 -- case 10: last = n + 1 is refused with 6
-pub case10-past : verdict (planTable (on 4 1) at-five 16 8 20) 0 ≡ Refused 6 1
+pub case10-past : verdict (planTable (on 4 1) at-five 8 8 20) 0 ≡ Refused 6 1
 unfolding verdict planTable circuitRows fileRows lineRows recordRows areaRows firstRecord badEnds seek
 case10-past = refl
 
 -- one circuit, and lists that are just long enough
-pub rooms-enough : verdict (planTable (on 1 1) seven 16 8 8) 0 ≡ Checked 0
+pub rooms-enough : verdict (planTable (on 1 1) seven 8 8 8) 0 ≡ Checked 0
 unfolding verdict planTable circuitRows fileRows lineRows recordRows areaRows firstRecord badEnds repeats seek any
 rooms-enough = refl
 
 -- a fibre list that is one byte short is refused with 8
-pub fibres-short : verdict (planTable (on 1 1) seven 15 8 8) 0 ≡ Refused 8 0
+pub fibres-short : verdict (planTable (on 1 1) seven 7 8 8) 0 ≡ Refused 8 0
 unfolding verdict planTable circuitRows fileRows lineRows recordRows areaRows firstRecord badEnds repeats seek any
 fibres-short = refl
 
 -- an assignment list that is one byte short is refused with 9
-pub assignments-short : verdict (planTable (on 1 1) seven 16 7 8) 0 ≡ Refused 9 0
+pub assignments-short : verdict (planTable (on 1 1) seven 8 7 8) 0 ≡ Refused 9 0
 unfolding verdict planTable circuitRows fileRows lineRows recordRows areaRows firstRecord badEnds repeats seek any
 assignments-short = refl
 
 -- a work area that is one byte short is refused with 10
-pub work-short : verdict (planTable (on 1 1) seven 16 8 7) 0 ≡ Refused 10 0
+pub work-short : verdict (planTable (on 1 1) seven 8 8 7) 0 ≡ Refused 10 0
 unfolding verdict planTable circuitRows fileRows lineRows recordRows areaRows firstRecord badEnds repeats seek any
 work-short = refl

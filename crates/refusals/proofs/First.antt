@@ -3,15 +3,14 @@ use Prim.Native.Nat.{ℕ, zero, suc, _<_, _≤_}
 use mathlib.Core.Path.{_≡_, refl, ap, ap₂, _∙_, sym}
 use mathlib.Core.Bool.{Bool, true, false}
 use mathlib.Core.List.{List, [], _∷_}
-use mathlib.Core.Option.{Option, none, some}
+use mathlib.Core.Option.{none, some}
 use native.Mathlib.Omega.{arith}
-use lib.ListN.{length}
 use lib.Dec.{ltb}
 use borrow.Author.Tests.{ltb-true, ltb-false}
 use Rattle.basics.specs.Tools.{seek}
 use Rattle.basics.proofs.Bools.{on}
 use Rattle.basics.proofs.Searches.{seek-hit, seek-miss}
-use Rattle.refusals.specs.declared.Verdict.the-variants.{Checked, Refused}
+use Rattle.refusals.specs.declared.Verdict.the-variants.{Checked}
 use Rattle.refusals.specs.Refusals.{Refusal, refusedWith, refusedOr}
 use Rattle.refusals.specs.Table.{Row, firstRecord, verdict}
 use Rattle.refusals.specs.Given.{rowAt, Given, NoneApplies}

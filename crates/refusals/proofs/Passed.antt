@@ -1,5 +1,5 @@
 -- What passing each row of the table tells. Assumes nothing.
-use Prim.Native.Nat.{ℕ, _+_, _*_, _/_, _%_, _<_, _≤_}
+use Prim.Native.Nat.{ℕ, _*_, _/_, _%_, _<_, _≤_}
 use mathlib.Core.Path.{_≡_, refl, sym}
 use mathlib.Core.Bool.{Bool, true, false, not, _&&_, _||_}
 use mathlib.Core.Logic.{_≢_}
@@ -13,7 +13,7 @@ use Rattle.basics.proofs.Bools.{and-l, and-r, by-le, or-false-l, or-false-r}
 use Rattle.basics.proofs.Searches.{any-false}
 use Rattle.records.specs.Records.{recordAt, circuitOf, numberIn}
 use Rattle.records.specs.declared.Circuit.{Circuit}
-use Rattle.refusals.specs.Table.{whenever, wherever, badEnds, hasNumber, repeats, row1, row2, row3, row4, row6, row7, row8, row9, row10}
+use Rattle.refusals.specs.Table.{whenever, wherever, badEnds, hasNumber, repeats, row1, row2, row3, row4, row6, row7}
 use Rattle.refusals.proofs.First.{record-none}
 
 -- a row that applies as a whole and does not apply: its test failed
@@ -80,31 +80,15 @@ passed7 s m e i j a b q =
     (λ l. by-le j i (λ g. omega arith) (λ g. absurd (not-before s j (record-none (repeats s) m (wherever-none 7 _ e) j b) i g q)))
     (λ l. absurd (not-before s i (record-none (repeats s) m (wherever-none 7 _ e) i a) j l (sym q)))
 
--- 8: the fibre list has so many bytes for each circuit
-pub passed8 : (each m has : ℕ) → (row8 each m has) ≡ none → each * m ≤ has
-passed8 each m has e = ltb-false has (each * m) (whenever-none 8 (ltb has (each * m)) e)
-
--- 9: the assignment list has 8 bytes for each circuit
-pub passed9 : (m has : ℕ) → (row9 m has) ≡ none → 8 * m ≤ has
-passed9 m has e = ltb-false has (8 * m) (whenever-none 9 (ltb has (8 * m)) e)
-
--- 10: the work area has 4 bytes for each link and for each circuit
-pub passed10 : (n m has : ℕ) → (row10 n m has) ≡ none → 4 * n + 4 * m ≤ has
-passed10 n m has e = ltb-false has (4 * n + 4 * m) (whenever-none 10 (ltb has (4 * n + 4 * m)) e)
+-- 8 to 10: a lent area has the bytes that are needed
+pub passed-room : (number needed has : ℕ) → whenever number (ltb has needed) ≡ none → needed ≤ has
+passed-room number needed has e = ltb-false has needed (whenever-none number (ltb has needed) e)
 
 -- a test that fails leaves its row out
 never : (number : ℕ) (b : Bool) → b ≡ false → whenever number b ≡ none
 never number true e = cc
 never number false e = refl
 
--- 8 does not apply to a fibre list that is long enough
-pub passes8 : (each m has : ℕ) → each * m ≤ has → row8 each m has ≡ none
-passes8 each m has h = never 8 (ltb has (each * m)) (le-ltb has (each * m) h)
-
--- 9 does not apply to an assignment list that is long enough
-pub passes9 : (m has : ℕ) → 8 * m ≤ has → row9 m has ≡ none
-passes9 m has h = never 9 (ltb has (8 * m)) (le-ltb has (8 * m) h)
-
--- 10 does not apply to a work area that is long enough
-pub passes10 : (n m has : ℕ) → 4 * n + 4 * m ≤ has → row10 n m has ≡ none
-passes10 n m has h = never 10 (ltb has (4 * n + 4 * m)) (le-ltb has (4 * n + 4 * m) h)
+-- 8 to 10 do not apply to a lent area that is long enough
+pub passes-room : (number needed has : ℕ) → needed ≤ has → whenever number (ltb has needed) ≡ none
+passes-room number needed has h = never number (ltb has needed) (le-ltb has needed h)

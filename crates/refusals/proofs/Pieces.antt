@@ -1,17 +1,20 @@
 -- What holds of the rows of a table, taken from its pieces and put together from them. Assumes nothing.
 use Prim.Native.Nat.{ℕ, zero, suc, _+_, _*_, _/_, _%_, _<_, _≤_}
-use mathlib.Core.Path.{_≡_}
+use borrow.Author.Tests.{leb-true}
+use mathlib.Core.Path.{_≡_, refl}
 use mathlib.Core.Bool.{Bool, true, false, not, _&&_}
 use mathlib.Core.List.{List, [], _∷_, _++_}
 use mathlib.Core.Option.{Option, none, some}
 use native.Mathlib.Omega.{arith}
-use lib.ListN.{length}
+use lib.ListN.{length, getD}
 use lib.Dec.{leb, ltb, eqb}
+use Rattle.basics.specs.Tools.{every}
+use Rattle.basics.proofs.Searches.{every-at}
 use Rattle.records.specs.Records.{recordAt, circuitOf, numberIn}
 use Rattle.records.specs.declared.Line.{Line}
 use Rattle.refusals.specs.Refusals.{Refusal}
 use Rattle.refusals.specs.Table.{Row, whenever, wherever, firstRecord, badEnds, repeats, fileRows, lineRows, recordRows, circuitRows, areaRows, planTable}
-use Rattle.refusals.specs.Given.{rowAt, Given, NoneApplies}
+use Rattle.refusals.specs.Given.{rowAt, Given, InOrder, NoneApplies}
 
 -- NONE APPLIES: no row of an empty table
 pub none-end : NoneApplies []
@@ -48,74 +51,77 @@ pub none-right : (rs rows : List Row) → NoneApplies (rs ++ rows) → NoneAppli
 none-right [] rows f = f
 none-right (row ∷ rs) rows f = none-right rs rows (none-rest row (rs ++ rows) f)
 
--- NUMBERS. A row's refusal, where it applies, has a number that is not 0
-abbrev Named : Row → Type 0
-Named row = (r : Refusal) → row ≡ some r → 1 ≤ r .number
+-- NUMBERS. A row that applies as a whole gives its number
+whenever-gives : (x : ℕ) (b : Bool) (r : Refusal) → whenever x b ≡ some r → r .number ≡ x
+whenever-gives x true r e = cc
+whenever-gives x false r e = absurd (let z : _≡_ {A = ℕ} 0 1 = cc in omega arith)
 
--- so it is for each row of a table
-record AllNamed (rows : List Row) : Type 0 where
-  each : (i : ℕ) → Named (rowAt rows i)
+-- a row that applies to a record gives its number
+wherever-gives : (x : ℕ) (o : Option ℕ) (r : Refusal) → wherever x o ≡ some r → r .number ≡ x
+wherever-gives x (some place) r e = cc
+wherever-gives x none r e = absurd (let z : _≡_ {A = ℕ} 0 1 = cc in omega arith)
 
--- a row that applies as a whole
-whenever-named : (k : ℕ) (b : Bool) → Named (whenever (suc k) b)
-whenever-named k true r e = let z : suc k ≡ r .number = cc in omega arith
-whenever-named k false r e = absurd (let z : _≡_ {A = ℕ} 0 1 = cc in omega arith)
-
--- a row that applies to a record
-wherever-named : (k : ℕ) (o : Option ℕ) → Named (wherever (suc k) o)
-wherever-named k (some place) r e = let z : suc k ≡ r .number = cc in omega arith
-wherever-named k none r e = absurd (let z : _≡_ {A = ℕ} 0 1 = cc in omega arith)
-
--- an empty table
-named-end : AllNamed []
-named-end = record { each = λ i r e. absurd (let z : _≡_ {A = ℕ} 0 1 = cc in omega arith) }
-
--- a row more
-named-more : (row : Row) (rows : List Row) → Named row → AllNamed rows → AllNamed (row ∷ rows)
-named-more row rows a f = record { each = go }
-  where
-    go : (i : ℕ) → Named (rowAt (row ∷ rows) i)
-    go zero = a
-    go (suc i) = f .each i
-
--- two pieces
-named-both : (rs rows : List Row) → AllNamed rs → AllNamed rows → AllNamed (rs ++ rows)
-named-both [] rows f g = g
-named-both (row ∷ rs) rows f g = named-more row (rs ++ rows) (f .each 0) (named-both rs rows (record { each = λ i. f .each (suc i) }) g)
+-- two pieces, each in its order, stand in the order of both
+in-order-both : (xs ys : List ℕ) (rs rows : List Row) → InOrder xs rs → InOrder ys rows → InOrder (xs ++ ys) (rs ++ rows)
+in-order-both [] ys [] rows o p = p
+in-order-both [] ys (row ∷ rs) rows o p = absurd o
+in-order-both (x ∷ xs) ys [] rows o p = absurd o
+in-order-both (x ∷ xs) ys (row ∷ rs) rows o p = (o .0, in-order-both xs ys rs rows (o .1) p)
 
 -- the circuit bytes
-file-named : (s : List ℕ) → AllNamed (fileRows s)
+file-in-order : (s : List ℕ) → InOrder (1 ∷ 2 ∷ []) (fileRows s)
 unfolding fileRows
-file-named s = named-more _ _ (whenever-named 0 (not (eqb (length s % 8) 0))) (named-more _ _ (whenever-named 1 (ltb 2048 (length s / 8))) named-end)
+file-in-order s = (whenever-gives 1 (not (eqb (length s % 8) 0)), (whenever-gives 2 (ltb 2048 (length s / 8)), tt))
 
 -- the line
-line-named : (line : Line) → AllNamed (lineRows line)
+line-in-order : (line : Line) → InOrder (3 ∷ 4 ∷ []) (lineRows line)
 unfolding lineRows
-line-named line =
-    named-more _ _ (whenever-named 2 (not (leb 1 (line .links) && leb (line .links) 512)))
-    (named-more _ _ (whenever-named 3 (not (leb 1 (line .wavelengths) && leb (line .wavelengths) 40))) named-end)
+line-in-order line =
+    (whenever-gives 3 (not (leb 1 (line .links) && leb (line .links) 512)), (whenever-gives 4 (not (leb 1 (line .wavelengths) && leb (line .wavelengths) 40)), tt))
 
 -- the records
-record-named : (n m : ℕ) (s : List ℕ) → AllNamed (recordRows n m s)
+record-in-order : (n m : ℕ) (s : List ℕ) → InOrder (5 ∷ 6 ∷ 7 ∷ []) (recordRows n m s)
 unfolding recordRows
-record-named n m s =
-    named-more _ _ (wherever-named 4 (firstRecord (λ i. eqb (numberIn s i) 0) m))
-    (named-more _ _ (wherever-named 5 (firstRecord (λ i. badEnds n (circuitOf (recordAt s i))) m))
-    (named-more _ _ (wherever-named 6 (firstRecord (repeats s) m)) named-end))
+record-in-order n m s =
+    let six = wherever-gives 6 (firstRecord (λ i. badEnds n (circuitOf (recordAt s i))) m) in
+    (wherever-gives 5 (firstRecord (λ i. eqb (numberIn s i) 0) m), (six, (wherever-gives 7 (firstRecord (repeats s) m), tt)))
 
 -- the lent areas
-area-named : (n m fibres assigns work : ℕ) → AllNamed (areaRows n m fibres assigns work)
+area-in-order : (n m fibres assigns work : ℕ) → InOrder (8 ∷ 9 ∷ 10 ∷ []) (areaRows n m fibres assigns work)
 unfolding areaRows
-area-named n m fibres assigns work =
-    named-more _ _ (whenever-named 7 (ltb fibres (16 * m)))
-    (named-more _ _ (whenever-named 8 (ltb assigns (8 * m))) (named-more _ _ (whenever-named 9 (ltb work (4 * n + 4 * m))) named-end))
+area-in-order n m fibres assigns work =
+    (whenever-gives 8 (ltb fibres (8 * m)), (whenever-gives 9 (ltb assigns (8 * m)), (whenever-gives 10 (ltb work (4 * n + 4 * m)), tt)))
+
+-- tests 1 to 7
+circuits-in-order : (line : Line) (s : List ℕ) → InOrder (1 ∷ 2 ∷ 3 ∷ 4 ∷ 5 ∷ 6 ∷ 7 ∷ []) (circuitRows line s)
+unfolding circuitRows
+circuits-in-order line s =
+    let rs = recordRows (line .links) (length s / 8) s in
+    let records = in-order-both (5 ∷ 6 ∷ 7 ∷ []) [] rs [] (record-in-order (line .links) (length s / 8) s) tt in
+    let drawn = in-order-both (3 ∷ 4 ∷ []) (5 ∷ 6 ∷ 7 ∷ []) (lineRows line) (rs ++ []) (line-in-order line) records in
+    in-order-both (1 ∷ 2 ∷ []) (3 ∷ 4 ∷ 5 ∷ 6 ∷ 7 ∷ []) (fileRows s) (lineRows line ++ (rs ++ [])) (file-in-order s) drawn
+
+-- the tests of the planner stand in the order of their numbers
+pub plan-in-order : (line : Line) (s : List ℕ) (fibres assigns work : ℕ) → InOrder (1 ∷ 2 ∷ 3 ∷ 4 ∷ 5 ∷ 6 ∷ 7 ∷ 8 ∷ 9 ∷ 10 ∷ []) (planTable line s fibres assigns work)
+unfolding planTable
+plan-in-order line s fibres assigns work =
+    let rs = areaRows (line .links) (length s / 8) fibres assigns work in
+    let areas = in-order-both (8 ∷ 9 ∷ 10 ∷ []) [] rs [] (area-in-order (line .links) (length s / 8) fibres assigns work) tt in
+    in-order-both (1 ∷ 2 ∷ 3 ∷ 4 ∷ 5 ∷ 6 ∷ 7 ∷ []) (8 ∷ 9 ∷ 10 ∷ []) (circuitRows line s) (rs ++ []) (circuits-in-order line s) areas
+
+-- what a row gives is one of the numbers
+in-order-at : (xs : List ℕ) (rows : List Row) → InOrder xs rows → (i : ℕ) (r : Refusal) → i < length rows → rowAt rows i ≡ some r → (i < length xs) × (r .number ≡ getD xs i 0)
+in-order-at [] [] o i r h e = absurd (omega arith)
+in-order-at [] (row ∷ rows) o i r h e = absurd o
+in-order-at (x ∷ xs) [] o i r h e = absurd o
+in-order-at (x ∷ xs) (row ∷ rows) o zero r h e = (omega arith, o .0 r e)
+in-order-at (x ∷ xs) (row ∷ rows) o (suc i) r h e = let z = in-order-at xs rows (o .1) i r (omega arith) e in (omega arith, z .1)
 
 -- no refusal of the planner has number 0
 pub plan-named : (line : Line) (s : List ℕ) (fibres assigns work : ℕ) (r : Refusal) → Given (planTable line s fibres assigns work) r → 1 ≤ r .number
-unfolding planTable circuitRows
+unfolding every
 plan-named line s fibres assigns work r g =
-    let m = length s / 8 in
-    (named-both (circuitRows line s) _
-    (named-both (fileRows s) _ (file-named s) (named-both (lineRows line) _ (line-named line) (named-both _ _ (record-named (line .links) m s) named-end)))
-    (named-both _ _ (area-named (line .links) m fibres assigns work) named-end))
-    .each (g .index) r (g .here)
+    let ns : List ℕ = 1 ∷ 2 ∷ 3 ∷ 4 ∷ 5 ∷ 6 ∷ 7 ∷ 8 ∷ 9 ∷ 10 ∷ [] in
+    let z = in-order-at ns (planTable line s fibres assigns work) (plan-in-order line s fibres assigns work) (g .index) r (g .below) (g .here) in
+    let y : leb 1 (getD ns (g .index) 0) ≡ true = every-at (λ i. leb 1 (getD ns i 0)) 0 10 refl (g .index) (omega arith) (omega arith) in
+    omega (arith, leb-true 1 (getD ns (g .index) 0) y, z .1)

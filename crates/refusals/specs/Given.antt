@@ -2,7 +2,7 @@
 -- Assumes nothing.
 use Prim.Native.Nat.{ℕ, _<_}
 use mathlib.Core.Path.{_≡_}
-use mathlib.Core.List.{List}
+use mathlib.Core.List.{List, [], _∷_}
 use mathlib.Core.Option.{none, some}
 use lib.ListN.{length, getD}
 use Rattle.refusals.specs.Refusals.{Refusal}
@@ -18,6 +18,13 @@ pub record Given (rows : List Row) (r : Refusal) : Type 0 where
   pub below : index < length rows
   pub here : rowAt rows index ≡ some r
   pub first : (i : ℕ) → i < index → rowAt rows i ≡ none
+
+-- the rows of a table stand in the order of these numbers: each, where it applies, gives its own
+abbrev pub InOrder : List ℕ → List Row → Type 0
+InOrder [] [] = Unit {0}
+InOrder [] (row ∷ rows) = ⊥
+InOrder (x ∷ xs) [] = ⊥
+InOrder (x ∷ xs) (row ∷ rows) = ((r : Refusal) → row ≡ some r → r .number ≡ x) × InOrder xs rows
 
 -- no row of the table applies
 pub record NoneApplies (rows : List Row) : Type 0 where

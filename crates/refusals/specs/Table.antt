@@ -72,9 +72,9 @@ row6 n s m = wherever 6 (firstRecord (λ i. badEnds n (circuitOf (recordAt s i))
 abbrev pub row7 : List ℕ → ℕ → Row
 row7 s m = wherever 7 (firstRecord (repeats s) m)
 
--- 8: fibre list shorter than so many bytes for each circuit
-abbrev pub row8 : ℕ → ℕ → ℕ → Row
-row8 each m has = whenever 8 (ltb has (each * m))
+-- 8: fibre list shorter than 8 × circuits bytes, as R-1 has it
+abbrev pub row8 : ℕ → ℕ → Row
+row8 m has = whenever 8 (ltb has (8 * m))
 
 -- 9: assignment list shorter than 8 × circuits bytes
 abbrev pub row9 : ℕ → ℕ → Row
@@ -111,7 +111,7 @@ circuitRows line s = fileRows s ++ (lineRows line ++ (recordRows (line .links) (
 
 -- the lent areas that the planner asks for m circuits on n links, by their lengths
 unfoldable pub areaRows : ℕ → ℕ → ℕ → ℕ → ℕ → List Row
-areaRows n m fibres assigns work = row8 16 m fibres ∷ row9 m assigns ∷ row10 n m work ∷ []
+areaRows n m fibres assigns work = row8 m fibres ∷ row9 m assigns ∷ row10 n m work ∷ []
 
 -- the tests of the planner, for a line, the circuit bytes s, and the lengths of the fibre list, the assignment list and the work area
 unfoldable pub planTable : Line → List ℕ → ℕ → ℕ → ℕ → List Row

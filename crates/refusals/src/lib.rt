@@ -184,12 +184,12 @@ fn room(number: u32, needed: usize, has: usize) -> Verdict
     Verdict::Checked(has)
 }
 
-// 8: the fibre list has `each` bytes for each of m circuits.
-pub fn fibre_room(has: usize, m: usize, each: usize) -> Verdict
-    requires { ⌜ (m ≤ 2048) × (each ≤ 16) ⌝ }
-    ensures { λ r. ⌜ r ≡ tested (row8 each m has) has ⌝ }
+// 8: the fibre list has 8 bytes for each of m circuits.
+pub fn fibre_room(has: usize, m: usize) -> Verdict
+    requires { ⌜ m ≤ 2048 ⌝ }
+    ensures { λ r. ⌜ r ≡ tested (row8 m has) has ⌝ }
 {
-    room(8, each * m, has)
+    room(8, 8 * m, has)
 }
 
 // 9: the assignment list has 8 bytes for each of m circuits.

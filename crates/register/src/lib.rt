@@ -6,3 +6,11 @@ pub struct Counts {
     pub total: usize,
     pub floor: usize,
 }
+
+// How many links, wavelengths and circuits, and the number that fibres are numbered after.
+pub struct Job {
+    pub links: usize,
+    pub wavelengths: usize,
+    pub circuits: usize,
+    pub from: usize,
+}

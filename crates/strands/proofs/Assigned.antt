@@ -13,16 +13,16 @@ use Rattle.register.specs.Lists.{assignmentList, assignmentRecords}
 use Rattle.register.proofs.Writing.{each-circuit, records-turn}
 use Rattle.strands.specs.inner.Area.{givenIn, putAssignment, recordsTo}
 
-module _ (n w m from : ℕ) (s : List ℕ) where
+module _ (n w m : ℕ) (s : List ℕ) where
   -- a turn of the loop that writes record j
-  pub assigned-turn : (j : ℕ) (out₀ out out′ : List ℕ) → out ≡ recordsTo n w m from s j ++ drop (8 * j) out₀ → out′ ≡ putAssignment n w m from s j out
-      → out′ ≡ recordsTo n w m from s (j + 1) ++ drop (8 * (j + 1)) out₀
+  pub assigned-turn : (j : ℕ) (out₀ out out′ : List ℕ) → out ≡ recordsTo n w m s j ++ drop (8 * j) out₀ → out′ ≡ putAssignment n w m s j out
+      → out′ ≡ recordsTo n w m s (j + 1) ++ drop (8 * (j + 1)) out₀
   unfolding recordsTo putAssignment
-  assigned-turn = records-turn from (circuit (circuitsIn m s)) (givenIn n w m s)
+  assigned-turn = records-turn 0 (circuit (circuitsIn m s)) (givenIn n w m s)
 
   -- all of them are the list
-  pub assigned-all : (out₀ : List ℕ) → recordsTo n w m from s m ++ drop (8 * m) out₀ ≡ assignmentList from (circuitsIn m s) (assignments n w (circuitsIn m s)) out₀
+  pub assigned-all : (out₀ : List ℕ) → recordsTo n w m s m ++ drop (8 * m) out₀ ≡ assignmentList 0 (circuitsIn m s) (assignments n w (circuitsIn m s)) out₀
   unfolding recordsTo assignments givenIn assignmentList
   assigned-all out₀ =
       ap₂ (λ (x : List ℕ) (k : ℕ). x ++ drop (8 * k) out₀)
-      (ap₂ (assignmentRecords from) (each-circuit m s) (ap (each (given n w (circuitsIn m s) (rows n w (circuitsIn m s))) 0) (sym (length-circuitsIn m s)))) (sym (length-circuitsIn m s))
+      (ap₂ (assignmentRecords 0) (each-circuit m s) (ap (each (given n w (circuitsIn m s) (rows n w (circuitsIn m s))) 0) (sym (length-circuitsIn m s)))) (sym (length-circuitsIn m s))

@@ -1,18 +1,18 @@
 -- The turns of the loop over the runs of a layer. Assumes nothing.
-use Prim.Native.Nat.{ℕ, suc, _+_, _-_, _*_, _≤_, _<_}
+use Prim.Native.Nat.{ℕ, suc, _+_, _-_, _≤_, _<_}
 use mathlib.Core.Bool.{Bool, not}
 use mathlib.Core.Path.{_≡_, refl, sym, ap, _∙_}
 use mathlib.Core.List.{List}
 use native.Mathlib.Omega.{arith}
-use lib.ListN.{length}
+use lib.ListN.{length, length-set, set}
 use Rattle.basics.specs.Tools.{seek}
 use Rattle.method.specs.Fibres.{runs}
-use Rattle.strands.specs.inner.Pairs.{Going, PairsPut, putPair, putPairs}
+use Rattle.strands.specs.inner.Pairs.{Going, LastsPut, putLasts}
 use Rattle.strands.proofs.Walk.{runs-from, past, next-ge, next-passes, runs-first, runs-end}
 
-module _ {h from : ℕ} {p : ℕ → Bool} {n place₀ : ℕ} {out₀ : List ℕ} where
+module _ {h : ℕ} {p : ℕ → Bool} {n place₀ : ℕ} {table₀ : List ℕ} where
   -- at the first run
-  pub going-start : {l : ℕ} → l ≡ seek p 1 (suc n - 1) → Going h from p n place₀ out₀ out₀ place₀ l
+  pub going-start : {l : ℕ} → l ≡ seek p 1 (suc n - 1) → Going h p n place₀ table₀ table₀ place₀ l
   going-start {l = l} q =
       let e = runs-from h p n l q in
       let b = next-ge h p n 1 l (omega arith) q in
@@ -21,13 +21,13 @@ module _ {h from : ℕ} {p : ℕ → Bool} {n place₀ : ℕ} {out₀ : List ℕ
         high = b .1;
         sized = refl;
         here = next-passes h p n 1 l (omega arith) q;
-        room = ap (λ fs. place₀ + 2 * length fs) (sym e);
-        left = ap (λ fs. putPairs from place₀ fs out₀) (sym e);
+        room = ap (λ fs. place₀ + length fs) (sym e);
+        left = ap (λ fs. putLasts place₀ fs table₀) (sym e);
       }
 
-  module _ {out : List ℕ} {place l : ℕ} (g : Going h from p n place₀ out₀ out place l) where
-    -- there is room for the pair
-    pub going-room : l ≤ n → {e : ℕ} → e ≡ seek (λ x. not (p x)) l (suc n - l) → place + 2 ≤ place₀ + 2 * length (runs h p 1 n)
+  module _ {table : List ℕ} {place l : ℕ} (g : Going h p n place₀ table₀ table place l) where
+    -- there is a place for the pair
+    pub going-room : l ≤ n → {e : ℕ} → e ≡ seek (λ x. not (p x)) l (suc n - l) → place + 1 ≤ place₀ + length (runs h p 1 n)
     going-room b {e = e} q =
         let r = g .room in
         omega (arith, ap length (runs-first h p n l e (seek p e (suc n - e)) (g .here b) b q refl))
@@ -45,12 +45,11 @@ module _ {h from : ℕ} {p : ℕ → Bool} {n place₀ : ℕ} {out₀ : List ℕ
         let z₀ = z .0 in
         omega arith
 
-    -- one pair is written, and the loop goes to the next run
+    -- its last link is put, and the loop goes to the next run
     pub going-turn : l ≤ n → {e l′ : ℕ} → e ≡ seek (λ x. not (p x)) l (suc n - l) → l′ ≡ seek p e (suc n - e)
-        → {out′ : List ℕ} → out′ ≡ putPair from place (record { first = l; last = e - 1; layer = h }) out → length out′ ≡ length out
-        → Going h from p n place₀ out₀ out′ (place + 2) l′
-    unfolding putPairs
-    going-turn b {e = e} {l′ = l′} q q′ o s =
+        → Going h p n place₀ table₀ (set table place (e - 1)) (place + 1) l′
+    unfolding putLasts
+    going-turn b {e = e} {l′ = l′} q q′ =
         let f = runs-first h p n l e l′ (g .here b) b q q′ in
         let a = going-past b q in
         let a₀ = a .0 in
@@ -62,16 +61,16 @@ module _ {h from : ℕ} {p : ℕ → Bool} {n place₀ : ℕ} {out₀ : List ℕ
         record {
           low = omega arith;
           high = z .1;
-          sized = s ∙ g .sized;
+          sized = length-set table place (e - 1) ∙ g .sized;
           here = next-passes h p n e l′ (a .1) q′;
           room = omega (arith, ap length f);
-          left = ap (putPairs from (place + 2) (runs h p l′ (suc n - l′))) o ∙ ap (λ fs. putPairs from place fs out) (sym f) ∙ g .left;
+          left = ap (λ fs. putLasts place fs table) (sym f) ∙ g .left;
         }
 
-    -- no run is left: all are written
-    pub going-end : n < l → PairsPut from place₀ (runs h p 1 n) out₀ out place
-    unfolding putPairs
+    -- no run is left: all are put
+    pub going-end : n < l → LastsPut place₀ (runs h p 1 n) table₀ table place
+    unfolding putLasts
     going-end b =
         let e = runs-end h p n l b in
         let r = g .room in
-        record { past-is = omega (arith, ap length e); written = ap (λ fs. putPairs from place fs out) (sym e) ∙ g .left }
+        record { past-is = omega (arith, ap length e); put = ap (λ fs. putLasts place fs table) (sym e) ∙ g .left }

@@ -1,5 +1,5 @@
 -- The turns of the loop over the layers. Assumes nothing.
-use Prim.Native.Nat.{ℕ, _+_, _*_, _/_, _≤_, _<_}
+use Prim.Native.Nat.{ℕ, _+_, _*_, _≤_, _<_}
 use mathlib.Core.Path.{_≡_, refl, ap, _∙_, sym}
 use mathlib.Core.List.{List}
 use native.Mathlib.Omega.{arith}
@@ -10,23 +10,23 @@ use Rattle.records.specs.Bytes.{cellsOf, setCell}
 use Rattle.records.proofs.CellLaws.{length-cellsOf, stored}
 use Rattle.method.specs.Sheet.{at}
 use Rattle.strands.specs.inner.Layers.{HasParts, Spared, layerBy, layersBy, layersIn}
-use Rattle.strands.specs.inner.Pairs.{FibresPut, Layering, PairsPut, putPairs}
+use Rattle.strands.specs.inner.Pairs.{LastsPut, Layering, PairsPut, putLasts}
 use Rattle.strands.proofs.Same.{at-kept, layer-agrees}
 use Rattle.strands.proofs.Walk.{layers-grow, length-layers}
-use Rattle.strands.proofs.Written.{layers-turn, putPairs-all}
+use Rattle.strands.proofs.Lasts.{layers-turn}
 
-module _ {n m top from : ℕ} {b₀ out₀ : List ℕ} (parts : HasParts n m top b₀) where
+module _ {n m top : ℕ} {b₀ table₀ : List ℕ} (parts : HasParts n m top b₀) where
   -- no layer yet
-  pub layering-start : Layering n m top from b₀ out₀ b₀ out₀ 0 0
-  unfolding layersBy putPairs
+  pub layering-start : Layering n m top b₀ table₀ b₀ table₀ 0 0
+  unfolding layersBy putLasts
   layering-start =
-      record { high = omega arith; long = refl; sized = refl; spare = record { kept = refl; starts = λ h l. absurd (omega arith) }; pairs-are = refl; written = refl }
+      record { high = omega arith; long = refl; sized = refl; spare = record { kept = refl; starts = λ h l. absurd (omega arith) }; pairs-are = refl; put = refl }
 
   -- the pairs so far are no more than all
-  pub layering-few : {b out : List ℕ} {h pairs : ℕ} → Layering n m top from b₀ out₀ b out h pairs → pairs ≤ length (layersIn n top b₀)
+  pub layering-few : {b table : List ℕ} {h pairs : ℕ} → Layering n m top b₀ table₀ b table h pairs → pairs ≤ length (layersIn n top b₀)
   layering-few {h = h} g = let a = g .high in let k = g .pairs-are in omega (arith, layers-grow (at (cellsOf b₀)) n top h top (omega arith))
 
-  module _ {b out : List ℕ} {h pairs : ℕ} (g : Layering n m top from b₀ out₀ b out h pairs) (l : h < top) {b₁ : List ℕ} (e : b₁ ≡ setCell b (2 * n + m + h) pairs) where
+  module _ {b table : List ℕ} {h pairs : ℕ} (g : Layering n m top b₀ table₀ b table h pairs) (l : h < top) {b₁ : List ℕ} (e : b₁ ≡ setCell b (2 * n + m + h) pairs) where
     -- one more spare cell
     spare-more : Spared n m top (h + 1) (cellsOf b₀) (cellsOf b₁)
     spare-more =
@@ -49,32 +49,32 @@ module _ {n m top from : ℕ} {b₀ out₀ : List ℕ} (parts : HasParts n m top
     next-layer = layer-agrees (at (cellsOf b₁)) (at (cellsOf b₀)) n top (h + 1) (at-kept (cellsOf b₀) (cellsOf b₁) n (2 * n + m) (omega arith) (spare-more .kept))
 
     -- there is room for it
-    pub layer-room : 2 * pairs + 2 * length (layerBy (at (cellsOf b₁)) n top (h + 1)) ≤ 2 * length (layersBy (at (cellsOf b₀)) n top top)
+    pub layer-room : pairs + length (layerBy (at (cellsOf b₁)) n top (h + 1)) ≤ length (layersBy (at (cellsOf b₀)) n top top)
     layer-room =
         let k = g .pairs-are in
         omega (arith, ap length next-layer, length-layers (at (cellsOf b₀)) n top h, layers-grow (at (cellsOf b₀)) n top (h + 1) top (omega arith))
 
-    -- it is written
-    pub layering-turn : {out₁ : List ℕ} {r : ℕ} → length b₁ ≡ length b → length out₁ ≡ length out → PairsPut from (2 * pairs) (layerBy (at (cellsOf b₁)) n top (h + 1)) out out₁ r
-        → Layering n m top from b₀ out₀ b₁ out₁ (h + 1) (r / 2)
-    layering-turn {out₁ = out₁} lb lo p =
+    -- its last links are put
+    pub layering-turn : {table₁ : List ℕ} {r : ℕ} → length b₁ ≡ length b → length table₁ ≡ length table → LastsPut pairs (layerBy (at (cellsOf b₁)) n top (h + 1)) table table₁ r
+        → Layering n m top b₀ table₀ b₁ table₁ (h + 1) r
+    layering-turn {table₁ = table₁} lb lt p =
         let k = g .pairs-are in
         record {
           high = omega arith;
           long = lb ∙ g .long;
-          sized = lo ∙ g .sized;
+          sized = lt ∙ g .sized;
           spare = spare-more;
           pairs-are = omega (arith, ap length next-layer, length-layers (at (cellsOf b₀)) n top h);
-          written = layers-turn (at (cellsOf b₀)) n top from h (2 * pairs) out₀ out out₁ (omega arith) (g .written) (p .written ∙ ap (λ fs. putPairs from (2 * pairs) fs out) next-layer);
+          put = layers-turn (at (cellsOf b₀)) n top h pairs table₀ table table₁ (omega arith) (g .put) (p .put ∙ ap (λ fs. putLasts pairs fs table) next-layer);
         }
 
-  -- all layers are written
-  pub layering-end : {b out : List ℕ} {h pairs : ℕ} → Layering n m top from b₀ out₀ b out h pairs → top ≤ h → FibresPut n m top from b₀ b out₀ out pairs
+  -- all layers are done
+  pub layering-end : {b table : List ℕ} {h pairs : ℕ} → Layering n m top b₀ table₀ b table h pairs → top ≤ h → PairsPut n m top b₀ b table₀ table pairs
   layering-end {h = h} g l =
       let z : h ≡ top = (let u = g .high in omega arith) in
       let f = at (cellsOf b₀) in
       record {
         pairs-are = g .pairs-are ∙ ap (λ y. length (layersBy f n top y)) z;
-        listed = g .written ∙ ap (λ y. putPairs from 0 (layersBy f n top y) out₀) z ∙ putPairs-all from (layersBy f n top top) out₀;
+        put = g .put ∙ ap (λ y. putLasts 0 (layersBy f n top y) table₀) z;
         spare = rw z at (g .spare);
       }

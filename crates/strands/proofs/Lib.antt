@@ -1,6 +1,6 @@
 pub mod Turns
 pub mod Walk
-pub mod Written
+pub mod Lasts
 pub mod Going
 pub mod Layering
 pub mod Same

@@ -1,4 +1,4 @@
--- Row, pair, fibre and wavelength of a circuit, read from the work area and the fibre list. Assumes nothing.
+-- Row, pair, fibre and wavelength of a circuit, read from the work area and the table of the pairs. Assumes nothing.
 use Prim.Native.Nat.{ℕ, suc, _+_, _-_, _*_, _/_, _%_, _≤_, _<_}
 use mathlib.Core.Bool.{Bool, cond}
 use mathlib.Core.Path.{_≡_, sym, ap, _∙_}
@@ -21,7 +21,7 @@ use Rattle.method.specs.Sheet.{most, rows}
 use Rattle.strands.specs.inner.Area.{PlacedAt, Sources, givenIn, pairReaches}
 use Rattle.method.proofs.Given.{placed, in-top, most-few, pair-sought, start-in, fibre-small}
 
-module _ {n w m count : ℕ} {s work list : List ℕ} (src : Sources n w m count s work list) {j : ℕ} (h : j < m) {v : ℕ} (e : v ≡ getD (cellsOf work) (2 * n + j) 0) where
+module _ {n w m count : ℕ} {s work table : List ℕ} (src : Sources n w m count s work table) {j : ℕ} (h : j < m) {v : ℕ} (e : v ≡ getD (cellsOf work) (2 * n + j) 0) where
   -- the circuits
   abbrev cs : List Circuit
   cs = circuitsIn m s
@@ -64,15 +64,15 @@ module _ {n w m count : ℕ} {s work list : List ℕ} (src : Sources n w m count
     start-is : start ≡ length (layers n w cs ((getD (rows n w cs) j 0 - 1) / w))
     start-is = b ∙ sym (getD-drop (2 * n + m) (cellsOf work) ((v / 2 - 1) / w) 0) ∙ src .marked .starts ((v / 2 - 1) / w) (layer-top .0) ∙ ap (λ k. length (layers n w cs ((k - 1) / w))) (row-half .0)
 
-    -- in the list
+    -- in the table
     pub start-low : start ≤ count
     start-low = omega (arith, start-is, start-in n w cs lies waves j l, src .strung .count-is)
 
     -- its pair
-    pair-counts : {x : ℕ} → x ≡ (circuit cs j) .first → {pair : ℕ} → pair ≡ seek (pairReaches list x) start (count - start) → pair ≡ pairOf n w cs (rows n w cs) j
+    pair-counts : {x : ℕ} → x ≡ (circuit cs j) .first → {pair : ℕ} → pair ≡ seek (pairReaches table x) start (count - start) → pair ≡ pairOf n w cs (rows n w cs) j
     pair-counts f p =
-        let q = pairReaches list ((circuit cs j) .first) in
-        p ∙ (λ i. seek (pairReaches list (f i)) (start-is i) (src .strung .count-is i - start-is i))
+        let q = pairReaches table ((circuit cs j) .first) in
+        p ∙ (λ i. seek (pairReaches table (f i)) (start-is i) (src .strung .count-is i - start-is i))
         ∙ pair-sought n w cs lies waves j l q (λ i u. ap (leb ((circuit cs j) .first)) (src .strung .lasts i (omega (arith, src .strung .count-is))))
 
   -- its fibre
@@ -95,7 +95,7 @@ module _ {n w m count : ℕ} {s work list : List ℕ} (src : Sources n w m count
 
   -- its place, once the search from the start of its layer gave the pair
   pub place-counts : {start x pair : ℕ} → v < 65536 → start ≡ getD (cellsOf work) (2 * n + m + (v / 2 - 1) / w) 0 → x ≡ (circuit cs j) .first
-      → pair ≡ seek (pairReaches list x) start (count - start) → PlacedAt n w m s j (2 * pair + 1 + v % 2) (v / 2 - (v / 2 - 1) / w * w)
+      → pair ≡ seek (pairReaches table x) start (count - start) → PlacedAt n w m s j (2 * pair + 1 + v % 2) (v / 2 - (v / 2 - 1) / w * w)
   unfolding givenIn
   place-counts {pair = pair} u b f p =
       let g : 2 * pair + 1 + v % 2 ≡ (givenIn n w m s j) .fibre = fibre-counts pair (pair-counts b f p) in

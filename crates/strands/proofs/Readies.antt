@@ -1,4 +1,4 @@
--- What phase one leaves is enough for phase two, and what the work area and the fibre list are when the assignments are written. Assumes nothing.
+-- What phase one leaves is enough for phase two, and what the work area and the table of the pairs are when the assignments are written. Assumes nothing.
 use Prim.Native.Nat.{ℕ, _+_, _*_, _≤_}
 use mathlib.Core.Bool.{Bool, cond}
 use mathlib.Core.Path.{_≡_, sym, ap, _∙_}
@@ -22,11 +22,11 @@ use Rattle.halves.specs.Halves.{FewRows, OneEnd, Halved}
 use Rattle.register.specs.Areas.{Areas}
 use Rattle.strands.specs.Laid.{Ready}
 use Rattle.strands.specs.inner.Layers.{HasParts, layersBy, layersIn}
-use Rattle.strands.specs.inner.Pairs.{FibresPut, Room}
+use Rattle.strands.specs.inner.Pairs.{HasPairs, PairsPut}
 use Rattle.strands.specs.inner.Area.{Marked, Sources, Strung}
 use Rattle.method.proofs.Given.{ends-differ, most-few}
 use Rattle.strands.proofs.Same.{needs-at, layers-same}
-use Rattle.strands.proofs.Written.{last-read}
+use Rattle.strands.proofs.Lasts.{last-read}
 
 module _ {n w m from top : ℕ} {s : List ℕ} {lent : Areas} (rd : Ready n w m from top s lent) where
   -- the circuits
@@ -63,20 +63,20 @@ module _ {n w m from top : ℕ} {s : List ℕ} {lent : Areas} (rd : Ready n w m 
   pairs-are = layers-are top ∙ ap (layers n w cs) (rd .top-is)
 
   -- at most one pair for each circuit
-  pairs-few : length (layersIn n top (lent .work)) ≤ m
+  pub pairs-few : length (layersIn n top (lent .work)) ≤ m
   pairs-few = omega (arith, ap length pairs-are, few-pairs n w cs (lies-there n cs lies) waves, length-circuitsIn m s)
 
-  -- BEFORE THE FIBRES: what their function asks
-  pub fibres-ready : HasParts n m top (lent .work) × Room from (2 * length (layersIn n top (lent .work))) (lent .fibres)
-  fibres-ready =
+  -- BEFORE THE PAIRS: what their function asks
+  pub pairs-ready : {table₀ : List ℕ} → length table₀ ≡ 2048 → HasParts n m top (lent .work) × HasPairs (length (layersIn n top (lent .work))) table₀
+  pairs-ready e =
       let a = rd .accepted in
       let k = pairs-few in (
         record { long = rd .filled .sized; line = omega arith; few = omega arith; layers = top-few },
-        record { places = omega arith; numbers = omega arith },
+        record { room = omega arith; few = omega arith },
       )
 
-  -- AFTER THE FIBRES
-  module _ {b₁ list : List ℕ} {count : ℕ} (put : FibresPut n m top from (lent .work) b₁ (lent .fibres) list count) where
+  -- AFTER THE PAIRS
+  module _ {b₁ table₀ table : List ℕ} {count : ℕ} (put : PairsPut n m top (lent .work) b₁ table₀ table count) where
     -- the cells
     abbrev C₁ : List ℕ
     C₁ = cellsOf b₁
@@ -116,17 +116,19 @@ module _ {n w m from top : ℕ} {s : List ℕ} {lent : Areas} (rd : Ready n w m 
               ∙ ap length (layers-are h);
         }
 
-    -- the fibre list
-    strung : length list ≡ length (lent .fibres) → Strung n w m count s list
-    strung e =
+    -- the table
+    strung : length table₀ ≡ 2048 → length table ≡ length table₀ → Strung n w m count s table
+    strung e e′ =
         let k = put .pairs-are in
+        let f = pairs-few in
+        let a = rd .accepted in
         record {
-          there = (let f = pairs-few in let r = rd .fibre-room in let a = rd .accepted in record { room = omega arith; few = omega arith });
+          there = record { room = omega arith; few = omega arith };
           count-is = k ∙ ap length pairs-are;
-          lasts = λ i h. last-read from (layersIn n top (lent .work)) list (lent .fibres) i (put .listed) (omega arith) ∙ ap (λ fs. (getD fs i noFibre) .last) pairs-are;
+          lasts = λ i h. last-read (layersIn n top (lent .work)) table₀ table i (put .put) (omega arith) (omega arith) ∙ ap (λ fs. (getD fs i noFibre) .last) pairs-are;
         }
 
     -- what the assignments are read from
-    pub sources : {b₂ : List ℕ} → length b₁ ≡ length (lent .work) → length b₂ ≡ length b₁ → Halved n m cs C₁ (cellsOf b₂) → length list ≡ length (lent .fibres)
-        → Sources n w m count s b₂ list
-    sources {b₂ = b₂} l₁ l₂ hv e = record { accepted = rd .accepted; marked = marked b₂ (l₂ ∙ l₁ ∙ rd .filled .sized) hv; strung = strung e }
+    pub sources : {b₂ : List ℕ} → length b₁ ≡ length (lent .work) → length b₂ ≡ length b₁ → Halved n m cs C₁ (cellsOf b₂) → length table₀ ≡ 2048 → length table ≡ length table₀
+        → Sources n w m count s b₂ table
+    sources {b₂ = b₂} l₁ l₂ hv e e′ = record { accepted = rd .accepted; marked = marked b₂ (l₂ ∙ l₁ ∙ rd .filled .sized) hv; strung = strung e e′ }

@@ -1,19 +1,12 @@
-// Phase two: from rows to fibres.
+// Phase two: from rows to fibres, and no dark ones.
 mod assigns;
-mod fibres;
 mod needs;
+mod pairs;
 
 use register::Counts;
+use register::Job;
 ghost use Rattle.register.specs.Areas.{areas};
 ghost use Rattle.strands.specs.Laid.{Ready, Laid};
-
-// How many links, wavelengths and circuits, and the number that fibres are numbered after.
-pub struct Job {
-    pub links: usize,
-    pub wavelengths: usize,
-    pub circuits: usize,
-    pub from: usize,
-}
 
 // Writes the fibre list, numbered after `from`, and the assignment list, from what phase one left in the work area, with M as `top`; the work area's cells are used up.
 pub fn lay(
@@ -28,13 +21,16 @@ pub fn lay(
     ensures { λ r. ⌜ Laid (job .links) (job .wavelengths) (job .circuits) (job .from) (now (circuits .entry)) (areas (now (fibres .entry)) (now (assigns .entry)) (now (work .entry))) (areas (now (fibres .exit)) (now (assigns .exit)) (now (work .exit))) r ⌝ }
 {
     let floor = needs::floor_of(work, job.links);
-    let pairs = fibres::write_fibres(work, job.links, job.circuits, top, job.from, fibres);
+    // A table of its own: no byte behind the new fibre records may change.
+    let mut lasts: [u16; 2048] = [0; 2048];
+    let pairs = pairs::pair_lasts(work, job.links, job.circuits, top, &mut lasts);
     let e = 2 * job.circuits;
     halves::write_halves(circuits, job.links, job.circuits, work, &mut assigns[0..e]);
-    assigns::write_assignments(job, pairs, circuits, work, fibres, assigns);
+    assigns::write_assignments(job, pairs, circuits, work, &lasts, assigns);
+    let t = lit::trim(job, 2 * pairs, circuits, work, fibres, assigns);
     Counts {
-        fibres: 2 * pairs,
-        total: 2 * floor,
+        fibres: t.fibres,
+        total: t.total,
         floor,
     }
 }

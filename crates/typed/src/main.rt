@@ -5,7 +5,7 @@ ghost use lib.ListN.{length};
 
 // Reads the text, and prints its sheet or what is wrong.
 fn read_and_print(buffer: &mut [u8], circuits: &mut [u8], out: &mut [u8])
-    requires { ⌜ (length (now buffer) ≡ 1048577) × (length (now circuits) ≡ 16384) × (213200 ≤ length (now out)) ⌝ }
+    requires { ⌜ (length (now buffer) ≡ 1048577) × (length (now circuits) ≡ 16384) × (147664 ≤ length (now out)) ⌝ }
 {
     let got = files::read_input(buffer);
     let k = prints::typed::print_typed(got, buffer, circuits, out);
@@ -17,7 +17,7 @@ fn lend(buffer: &mut [u8])
     requires { ⌜ length (now buffer) ≡ 1048577 ⌝ }
 {
     let mut circuits = [0u8; 16384];
-    let mut out = [0u8; 213200];
+    let mut out = [0u8; 147664];
     read_and_print(buffer, &mut circuits, &mut out);
 }
 

@@ -60,15 +60,15 @@ mod tests {
 
     #[test]
     fn a_plan_has_no_refusal_and_no_place() {
-        let answer = call(1, 1, &CIRCUIT, &mut [1; 16], &mut [1; 8], &mut [1; 8]);
+        let answer = call(1, 1, &CIRCUIT, &mut [1; 8], &mut [1; 8], &mut [1; 8]);
         assert_eq!((answer.refusal, answer.place), (0, 0));
-        assert_eq!((answer.fibres, answer.total, answer.floor), (2, 2, 1));
+        assert_eq!((answer.fibres, answer.total, answer.floor), (1, 1, 1));
     }
 
     #[test]
     fn a_refusal_has_three_zeros() {
         let file = [CIRCUIT, CIRCUIT].concat();
-        let answer = call(1, 1, &file, &mut [1; 32], &mut [1; 16], &mut [1; 12]);
+        let answer = call(1, 1, &file, &mut [1; 16], &mut [1; 16], &mut [1; 12]);
         assert_eq!((answer.refusal, answer.place), (7, 2));
         assert_eq!((answer.fibres, answer.total, answer.floor), (0, 0, 0));
     }

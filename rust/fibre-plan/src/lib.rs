@@ -4,6 +4,10 @@
 //! fibre and a wavelength, so that no two circuits that share a link share both. The same circuits
 //! get the same fibres and wavelengths whatever their order.
 //!
+//! No fibre is dark, not even on one of its links: each link of a fibre is used by a circuit that
+//! the fibre carries. So there is at most one fibre a circuit. Over each link there are at most
+//! twice as many fibres, and in all at most twice the length, that any valid plan needs.
+//!
 //! The work is done by a library in Rattle whose contract fixes the answer and every byte that it
 //! writes, for every input. This crate turns its records into Rust types and back; that part is
 //! tested and not proved.
@@ -16,8 +20,9 @@
 //!     Circuit { number: 20, first: 2, last: 5 },
 //! ];
 //! let plan = plan(5, 2, &circuits)?;
-//! assert_eq!(plan.fibres.len(), 2);
+//! assert_eq!(plan.fibres.len(), 1);
 //! assert_eq!(plan.assignments[1].circuit, 20);
+//! assert_eq!((plan.total, plan.floor), (5, 5));
 //! # Ok::<(), Refusal>(())
 //! ```
 #![deny(missing_docs)]
@@ -50,7 +55,8 @@ pub struct Counts {
     pub floor: usize,
 }
 
-/// A plan: a list of fibres and, for each circuit, one of them and a wavelength.
+/// A plan: a list of fibres and, for each circuit, one of them and a wavelength. Each link of each
+/// fibre is used by a circuit on it.
 #[derive(Clone, Debug, PartialEq, Eq, Hash)]
 pub struct Plan {
     /// The fibres, in the order of their numbers.
@@ -63,9 +69,9 @@ pub struct Plan {
     pub floor: usize,
 }
 
-/// The bytes that a fibre list must have, for so many circuits.
+/// The bytes that a fibre list must have, for so many circuits: there is at most one fibre a circuit.
 pub const fn fibre_bytes(circuits: usize) -> usize {
-    circuits.saturating_mul(2 * RECORD_BYTES)
+    circuits.saturating_mul(RECORD_BYTES)
 }
 
 /// The bytes that an assignment list must have, for so many circuits.
@@ -124,9 +130,10 @@ pub fn plan(links: usize, wavelengths: usize, circuits: &[Circuit]) -> Result<Pl
 /// use fibre_plan::{plan_bytes, Refusal};
 ///
 /// let circuits = [7, 0, 0, 0, 1, 0, 1, 0];
-/// let (mut fibres, mut assignments, mut work) = ([0; 16], [0; 8], [0; 8]);
+/// let (mut fibres, mut assignments, mut work) = ([0; 8], [0; 8], [0; 8]);
 /// let counts = plan_bytes(1, 1, &circuits, &mut fibres, &mut assignments, &mut work)?;
-/// assert_eq!((counts.fibres, counts.total, counts.floor), (2, 2, 1));
+/// assert_eq!((counts.fibres, counts.total, counts.floor), (1, 1, 1));
+/// assert_eq!(fibres, [1, 0, 1, 0, 1, 0, 1, 0]);
 /// assert_eq!(assignments, [7, 0, 0, 0, 1, 0, 1, 0]);
 /// # Ok::<(), Refusal>(())
 /// ```

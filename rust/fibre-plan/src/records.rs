@@ -23,7 +23,7 @@ pub struct Fibre {
     pub first: u16,
     /// Its last link.
     pub last: u16,
-    /// The layer that it belongs to, from 1.
+    /// The layer that it belongs to, from 1; a layer may have no fibre.
     pub layer: u16,
 }
 

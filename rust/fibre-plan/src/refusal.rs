@@ -29,7 +29,7 @@ pub enum Refusal {
         /// The first record that repeats an earlier one.
         place: usize,
     },
-    /// 8: the fibre list has fewer than 16 bytes a circuit.
+    /// 8: the fibre list has fewer than 8 bytes a circuit.
     FibreRoom,
     /// 9: the assignment list has fewer than 8 bytes a circuit.
     AssignmentRoom,

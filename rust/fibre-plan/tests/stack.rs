@@ -1,15 +1,15 @@
-//! How much stack one call of `fibre_plan` uses: at most 16 KB, as the header says.
+//! How much stack one call of `fibre_plan` uses: less than 32 KB, as the header says.
 #![cfg(target_arch = "x86_64")]
 use fibre_plan::{assignment_bytes, fibre_bytes, plan_bytes, work_bytes};
 use inputs::{encode, Family, Numbers, Rng, FAMILIES};
 use std::arch::asm;
 use std::hint::black_box;
 
-/// What the header promises.
-const PROMISED: usize = 16 * 1024;
+/// What the header promises to stay below.
+const PROMISED: usize = 32 * 1024;
 
 /// The stack that is lent, far more than what is promised.
-const STACK: usize = 64 * PROMISED;
+const STACK: usize = 32 * PROMISED;
 
 /// 16 bytes of stack: a stack's top stands at a multiple of 16.
 #[derive(Clone, Copy)]
@@ -98,7 +98,7 @@ fn what_is_written_is_seen() {
 }
 
 #[test]
-fn a_call_uses_at_most_16_kb_of_stack() {
+fn a_call_uses_less_than_32_kb_of_stack() {
     let mut most = 0;
     for family in FAMILIES {
         for numbers in [Numbers::Rising, Numbers::Shuffled] {
@@ -113,5 +113,5 @@ fn a_call_uses_at_most_16_kb_of_stack() {
         }
     }
     println!("a call uses at most {most} bytes of stack");
-    assert!(most <= PROMISED, "{most} bytes of stack");
+    assert!(most < PROMISED, "{most} bytes of stack");
 }

@@ -21,23 +21,23 @@ fn the_listing() {
         last,
         layer,
     };
-    let fibres = [(1, 2, 2, 1), (2, 2, 2, 1), (3, 1, 5, 2), (4, 1, 5, 2)].map(fibre);
+    let fibres = [(1, 1, 5, 2), (2, 2, 5, 2)].map(fibre);
     let at = |(circuit, fibre, wavelength)| Assignment {
         circuit,
         fibre,
         wavelength,
     };
-    let assignments = [(10, 3, 2), (20, 4, 1), (30, 3, 1), (40, 3, 2)].map(at);
+    let assignments = [(10, 1, 2), (20, 2, 1), (30, 1, 1), (40, 1, 2)].map(at);
     assert_eq!(plan.fibres, fibres);
     assert_eq!(plan.assignments, assignments);
-    assert_eq!((plan.total, plan.floor), (12, 6));
+    assert_eq!((plan.total, plan.floor), (9, 6));
 }
 
 #[test]
 fn the_bytes_as_types() {
     let list = Family::Random.circuits(300, 200, Numbers::Shuffled, &mut Rng::new(7));
     let typed = plan(200, 8, &circuits(&list)).unwrap();
-    let (mut fibres, mut assignments, mut work) = ([1; 4800], [1; 2400], [1; 2000]);
+    let (mut fibres, mut assignments, mut work) = ([1; 2400], [1; 2400], [1; 2000]);
     let counts = plan_bytes(
         200,
         8,

@@ -21,6 +21,14 @@ pub fn encode(circuits: &[Circuit]) -> Vec<u8> {
     bytes
 }
 
+/// 19 circuits for 21 links and two wavelengths: 10 pairs of fibres of 01, and two fibres of R-1. They are
+/// [2j − 1, 2j + 1] for j from 1 to 10, each twice, but the first once.
+pub fn ladder() -> Vec<Circuit> {
+    let rungs = (1..=10).flat_map(|j| [(2 * j - 1, 2 * j + 1); 2]);
+    let numbered = (1..).zip(rungs.skip(1));
+    numbered.map(|(number, (a, b))| (number, a, b)).collect()
+}
+
 /// Circuit numbers for a file: no two alike, and none 0.
 #[derive(Clone, Copy, Debug, PartialEq, Eq)]
 pub enum Numbers {

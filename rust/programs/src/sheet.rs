@@ -10,7 +10,7 @@ fn two_at(record: &[u8], at: usize) -> u16 {
 /// The sheet of the records of a line, by the reference: its lines, or the line of the refusal.
 pub fn sheet_of(n: u16, w: u16, circuits: &[u8]) -> String {
     let many = circuits.len() / 8;
-    let mut fibres = vec![0; 16 * many];
+    let mut fibres = vec![0; 8 * many];
     let mut assignments = vec![0; 8 * many];
     let mut work = vec![0; 4 * usize::from(n) + 4 * many];
     let planned = reference::plan(

@@ -41,8 +41,8 @@ fn high_numbers(m: u32) -> Vec<Circuit> {
 
 #[test]
 fn the_listing() {
-    let text = "F 1 2 2 1\nF 2 2 2 1\nF 3 1 5 2\nF 4 1 5 2\n\
-        C 10 3 2 192200\nC 20 4 1 192100\nC 30 3 1 192100\nC 40 3 2 192200\nT 4 12 6\n";
+    let text = "F 1 1 5 2\nF 2 2 5 2\n\
+        C 10 1 2 192200\nC 20 2 1 192100\nC 30 1 1 192100\nC 40 1 2 192200\nT 2 9 6\n";
     prints_for(5, 2, &LISTING, text);
 }
 
@@ -112,7 +112,7 @@ fn the_length_of_the_circuit_file() {
     for (length, text) in lengths {
         assert_eq!(prints_sheet(1, 40, &bytes[..length]), text, "{length}");
     }
-    assert!(prints_sheet(1, 40, &bytes[..16_384]).ends_with("T 104 104 52\n"));
+    assert!(prints_sheet(1, 40, &bytes[..16_384]).ends_with("T 52 52 52\n"));
 }
 
 #[test]
@@ -137,12 +137,25 @@ fn sheets_at_the_limits() {
     }
 }
 
-#[test]
-fn the_longest_sheet() {
-    let list: Vec<Circuit> = (0..2048).map(|i| (u32::MAX - i, 1, 512)).collect();
+/// 2,048 circuits over these links, numbered down from the largest number, on one wavelength: a fibre and a layer each.
+#[track_caller]
+fn prints_a_fibre_each(first: u16, last: u16, totals: &str) -> String {
+    let list: Vec<Circuit> = (0..2048).map(|i| (u32::MAX - i, first, last)).collect();
     let text = prints_sheet(512, 1, &encode(&list));
-    assert!(text.contains("\nF 4096 1 512 2048\nC 4294967295 4095 1 192100\n"));
-    assert!(text.ends_with("T 4096 2097152 1048576\n"));
+    let middle = format!("\nF 2048 {first} {last} 2048\nC 4294967295 2048 1 192100\n");
+    assert!(text.contains(&middle) && text.ends_with(totals));
+    text
+}
+
+#[test]
+fn the_greatest_total() {
+    prints_a_fibre_each(1, 512, "\nT 2048 1048576 1048576\n");
+}
+
+#[test]
+fn the_longest_lines() {
+    let text = prints_a_fibre_each(512, 512, "\nT 2048 2048 2048\n");
+    assert!(text.contains("\nF 1000 512 512 1000\n"));
 }
 
 #[test]
@@ -213,7 +226,7 @@ fn numbers_low_byte_first() {
         256,
         1,
         &[(256, 256, 256)],
-        "F 1 256 256 1\nF 2 256 256 1\nC 256 1 1 192100\nT 2 2 1\n",
+        "F 1 256 256 1\nC 256 1 1 192100\nT 1 1 1\n",
     );
     prints_for(1, 256, &[], "R 4 0\n");
     prints_for(513, 1, &[], "R 3 0\n");
@@ -221,13 +234,13 @@ fn numbers_low_byte_first() {
         258,
         1,
         &[(16_909_060, 258, 258)],
-        "F 1 258 258 1\nF 2 258 258 1\nC 16909060 1 1 192100\nT 2 2 1\n",
+        "F 1 258 258 1\nC 16909060 1 1 192100\nT 1 1 1\n",
     );
     prints_for(
         1,
         1,
         &[(u32::MAX, 1, 1)],
-        "F 1 1 1 1\nF 2 1 1 1\nC 4294967295 1 1 192100\nT 2 2 1\n",
+        "F 1 1 1 1\nC 4294967295 1 1 192100\nT 1 1 1\n",
     );
 }
 

@@ -74,8 +74,8 @@ fn wrong_texts_are_told() {
 
 #[test]
 fn the_listing() {
-    let sheet = "F 1 2 2 1\nF 2 2 2 1\nF 3 1 5 2\nF 4 1 5 2\n\
-        C 10 3 2 192200\nC 20 4 1 192100\nC 30 3 1 192100\nC 40 3 2 192200\nT 4 12 6\n";
+    let sheet = "F 1 1 5 2\nF 2 2 5 2\n\
+        C 10 1 2 192200\nC 20 2 1 192100\nC 30 1 1 192100\nC 40 1 2 192200\nT 2 9 6\n";
     prints(text_of(5, 2, &LISTING).as_bytes(), sheet);
     prints(b"# no circuits\n5 2", "T 0 0 0\n");
 }

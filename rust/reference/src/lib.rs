@@ -1,14 +1,21 @@
-//! The planner's method in plain Rust, written from the scope paper alone, for comparison.
+//! The planner's method in plain Rust, written from the scope paper and the change requests alone, for comparison.
 //!
-//! It follows the paper sentence by sentence and does not try to be fast.
+//! It follows the papers sentence by sentence and does not try to be fast.
 #![deny(missing_docs)]
 
+mod lit;
+mod paired;
 mod records;
 mod sheet;
-mod strands;
+mod slips;
 mod table;
 
-use records::Circuit;
+pub use lit::lit;
+pub use paired::paired;
+pub use records::Circuit;
+#[doc(hidden)]
+pub use slips::{Slip, BASE_SLIPS, LIT_SLIPS};
+
 use std::ops::RangeInclusive;
 
 /// How many fibres, their total length, and the floor.
@@ -31,45 +38,41 @@ pub struct Refused {
     pub place: usize,
 }
 
-/// A mistake to make on purpose, so that a comparison can be seen to fail.
-#[doc(hidden)]
-#[derive(Clone, Copy, Debug, PartialEq, Eq)]
-pub enum Slip {
-    /// No mistake.
-    None,
-    /// Of the circuits that fit, the first in the file is placed.
-    TiesByPlace,
-    /// Blue links are open again in the next row.
-    BlueNotKept,
-    /// Where a circuit is free to choose, it gets the second fibre.
-    SecondFirst,
-    /// L(i) / w is rounded down.
-    RoundedDown,
-    /// A circuit may lie over taken links beside the run.
-    TakenNotSeen,
-    /// Every link has the largest c(i).
-    LargestLoad,
-    /// A fibre's length is last link less first.
-    LastLessFirst,
-    /// The work area is left as it was.
-    WorkNotZeroed,
+/// A fibre of a layer.
+#[derive(Clone, Debug, PartialEq, Eq)]
+pub struct Fibre {
+    /// The links that it spans.
+    pub span: RangeInclusive<usize>,
+    /// Its layer, counted from 1.
+    pub layer: usize,
 }
 
-/// All mistakes.
-#[doc(hidden)]
-pub const SLIPS: [Slip; 8] = [
-    Slip::TiesByPlace,
-    Slip::BlueNotKept,
-    Slip::SecondFirst,
-    Slip::RoundedDown,
-    Slip::TakenNotSeen,
-    Slip::LargestLoad,
-    Slip::LastLessFirst,
-    Slip::WorkNotZeroed,
-];
+/// Where a circuit is carried.
+#[derive(Clone, Copy, Debug, PartialEq, Eq)]
+pub struct Place {
+    /// The number of its fibre: that fibre's place in the list, counted from 1.
+    pub fibre: usize,
+    /// Its wavelength.
+    pub wavelength: usize,
+}
+
+/// What stands for the place of a circuit that no row took, as a mistake may have it.
+const NOWHERE: Place = Place {
+    fibre: 0,
+    wavelength: 0,
+};
+
+/// A list of fibres and, for each circuit in file order, where it is carried.
+#[derive(Clone, Debug, PartialEq, Eq)]
+pub struct Plan {
+    /// The fibres, in the order of their numbers.
+    pub fibres: Vec<Fibre>,
+    /// The places, in the order of the circuit file.
+    pub places: Vec<Place>,
+}
 
 /// Each link's c(i), at index i; index 0 is no link.
-fn needs(n: usize, w: usize, circuits: &[Circuit], slip: Slip) -> Vec<usize> {
+pub fn needs(n: usize, w: usize, circuits: &[Circuit], slip: Slip) -> Vec<usize> {
     let load = |i: usize| circuits.iter().filter(|c| c.links().contains(&i)).count();
     let need = |i| match slip {
         Slip::RoundedDown => load(i) / w,
@@ -132,25 +135,33 @@ pub fn plan_with(
     work: &mut [u8],
 ) -> Result<Counts, Refused> {
     let lengths = [fibres.len(), assignments.len(), work.len()];
-    let circuits = table::accepted(n, w, circuits, lengths)?;
+    let circuits = table::accepted(n, w, circuits, lengths, slip)?;
     let c = needs(n, w, &circuits, slip);
-    let rows = sheet::rows(n, w, &circuits, &c, slip);
-    let laid = strands::fibres(n, &c);
-    let carried = strands::assignments(w, &circuits, &rows, &laid, slip);
+    let plan = lit(n, &circuits, &paired(n, w, &circuits, &c, slip), slip);
 
-    for (i, fibre) in laid.iter().enumerate() {
+    for (i, fibre) in plan.fibres.iter().enumerate() {
         records::put(fibres, i, fibre.record(i + 1));
     }
-    for (j, (circuit, place)) in circuits.iter().zip(carried).enumerate() {
-        records::put(assignments, j, circuit.assigned(place));
+    for (j, (circuit, place)) in circuits.iter().zip(&plan.places).enumerate() {
+        records::put(assignments, j, circuit.assigned(*place));
     }
     if slip != Slip::WorkNotZeroed {
         work[..4 * n + 4 * circuits.len()].fill(0);
     }
-    let less = usize::from(slip == Slip::LastLessFirst);
+    let floor = c.iter().sum();
     Ok(Counts {
-        fibres: laid.len(),
-        total: laid.iter().map(|f| f.span.clone().count() - less).sum(),
-        floor: c.iter().sum(),
+        fibres: plan.fibres.len(),
+        total: match slip {
+            Slip::TwiceTheFloor => 2 * floor,
+            _ => plan.fibres.iter().map(|f| f.length(slip)).sum(),
+        },
+        floor,
     })
+}
+
+impl Fibre {
+    /// The number of links that it spans.
+    fn length(&self, slip: Slip) -> usize {
+        self.span.clone().count() - usize::from(slip == Slip::LastLessFirst)
+    }
 }

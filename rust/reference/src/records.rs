@@ -1,12 +1,15 @@
 //! The records: 8 bytes each, low byte first.
-use crate::strands::{Fibre, Place};
+use crate::{Fibre, Place};
 use std::ops::RangeInclusive;
 
 /// A circuit [first, last].
-#[derive(Clone, Copy)]
+#[derive(Clone, Copy, Debug)]
 pub struct Circuit {
+    /// Its number.
     pub number: u32,
+    /// Its first link.
     pub first: usize,
+    /// Its last link.
     pub last: usize,
 }
 
@@ -44,7 +47,7 @@ impl Circuit {
     }
 
     /// Its assignment record.
-    pub fn assigned(&self, place: Place) -> [u8; 8] {
+    pub(crate) fn assigned(&self, place: Place) -> [u8; 8] {
         let [a, b, c, d] = [0, 8, 16, 24].map(|shift| (self.number >> shift) as u8);
         let [[e, f], [g, h]] = [two(place.fibre), two(place.wavelength)];
         [a, b, c, d, e, f, g, h]
@@ -53,7 +56,7 @@ impl Circuit {
 
 impl Fibre {
     /// Its record, with the number that it has in the list.
-    pub fn record(&self, number: usize) -> [u8; 8] {
+    pub(crate) fn record(&self, number: usize) -> [u8; 8] {
         let [[a, b], [c, d]] = [two(number), two(*self.span.start())];
         let [[e, f], [g, h]] = [two(*self.span.end()), two(self.layer)];
         [a, b, c, d, e, f, g, h]

@@ -1,6 +1,6 @@
 //! The table of refusals.
 use crate::records::Circuit;
-use crate::Refused;
+use crate::{Refused, Slip};
 use std::collections::HashSet;
 
 /// A refusal that applies as a whole.
@@ -33,6 +33,7 @@ pub fn accepted(
     w: usize,
     file: &[u8],
     [fibres, assignments, work]: [usize; 3],
+    slip: Slip,
 ) -> Result<Vec<Circuit>, Refused> {
     unless(file.len().is_multiple_of(8), 1)?;
     unless(file.len() / 8 <= 2048, 2)?;
@@ -45,7 +46,8 @@ pub fn accepted(
     })?;
     let mut seen = HashSet::new();
     unless_bad(&circuits, 7, |c| !seen.insert(c.number))?;
-    unless(fibres >= 16 * circuits.len(), 8)?;
+    let each = if slip == Slip::RoomForPairs { 16 } else { 8 };
+    unless(fibres >= each * circuits.len(), 8)?;
     unless(assignments >= 8 * circuits.len(), 9)?;
     unless(work >= 4 * n + 4 * circuits.len(), 10)?;
     Ok(circuits)

@@ -93,7 +93,7 @@ fn accepted(
     let bad_ends = |c: &Circuit| c.first == 0 || c.last < c.first || n < usize::from(c.last);
     unless_at(circuits.iter().position(bad_ends), 6)?;
     unless_at(repeated(&circuits), 7)?;
-    unless(16 * m <= fibres, 8)?;
+    unless(8 * m <= fibres, 8)?;
     unless(8 * m <= assignments, 9)?;
     unless(4 * n + 4 * m <= work, 10)?;
     Ok(circuits)
@@ -198,6 +198,55 @@ fn seconds(circuits: &[Circuit], rows: &[usize]) -> Vec<bool> {
     second
 }
 
+/// The pair of a circuit, among those of its layer and later ones.
+fn pair_of(circuit: &Circuit, pairs: &[Fibre]) -> usize {
+    let (first, _) = circuit.ends();
+    let found = pairs.iter().position(|f| first <= f.last);
+    found.expect("a circuit lies within a fibre of its layer")
+}
+
+/// The fibre of each circuit before dark ones are left out, counted from 0, in file order.
+fn old_fibres(
+    w: usize,
+    circuits: &[Circuit],
+    rows: &[usize],
+    (pairs, starts): (&[Fibre], &[usize]),
+) -> Vec<usize> {
+    let old = |(circuit, second): (&Circuit, bool)| {
+        let start = starts[(rows[circuit.at()] - 1) / w];
+        2 * (start + pair_of(circuit, &pairs[start..])) + usize::from(second)
+    };
+    circuits
+        .iter()
+        .zip(seconds(circuits, rows))
+        .map(old)
+        .collect()
+}
+
+/// The runs of links that the circuits of each old fibre use, and the number of each circuit's, in file order.
+fn light(circuits: &[Circuit], old: &[usize], pairs: &[Fibre]) -> (Vec<Fibre>, Vec<usize>) {
+    let mut order: Vec<&Circuit> = circuits.iter().collect();
+    order.sort_unstable_by_key(|c| (old[c.at()], c.first));
+    let mut fibres: Vec<Fibre> = Vec::new();
+    let mut numbers = vec![0; circuits.len()];
+    let mut before = None;
+    for c in order {
+        let (first, last) = c.ends();
+        let on = old[c.at()];
+        match fibres.last_mut() {
+            Some(f) if before == Some(on) && first <= f.last + 1 => f.last = f.last.max(last),
+            _ => fibres.push(Fibre {
+                first,
+                last,
+                layer: pairs[on / 2].layer,
+            }),
+        }
+        before = Some(on);
+        numbers[c.at()] = fibres.len();
+    }
+    (fibres, numbers)
+}
+
 /// Writes record i of a list, counted from 0.
 fn put(list: &mut [u8], i: usize, fields: [u16; 4]) {
     let record = list[8 * i..8 * i + 8].chunks_exact_mut(2);
@@ -206,18 +255,11 @@ fn put(list: &mut [u8], i: usize, fields: [u16; 4]) {
     }
 }
 
-fn write_fibres(list: &mut [u8], pairs: &[Fibre]) {
-    for (i, f) in pairs.iter().flat_map(|f| [f, f]).enumerate() {
+fn write_fibres(list: &mut [u8], fibres: &[Fibre]) {
+    for (i, f) in fibres.iter().enumerate() {
         let fields = [i + 1, f.first, f.last, f.layer];
         put(list, i, fields.map(|x| x as u16));
     }
-}
-
-/// The pair of a circuit, among those of its layer and later ones.
-fn pair_of(circuit: &Circuit, pairs: &[Fibre]) -> usize {
-    let (first, _) = circuit.ends();
-    let found = pairs.iter().position(|f| first <= f.last);
-    found.expect("a circuit lies within a fibre of its layer")
 }
 
 /// Plans the circuit records on lent areas.
@@ -235,17 +277,20 @@ pub fn plan(
     let top = c.iter().copied().max().unwrap_or(0);
     let rows = fill_sheet(w, &circuits, &c, top);
     let (pairs, starts) = pairs(&c, top);
-    write_fibres(fibres, &pairs);
-    for (circuit, second) in circuits.iter().zip(seconds(&circuits, &rows)) {
-        let row = rows[circuit.at()] - 1;
-        let start = starts[row / w];
-        let pair = start + pair_of(circuit, &pairs[start..]);
-        let fibre = 2 * pair + 1 + usize::from(second);
+    let old = old_fibres(w, &circuits, &rows, (&pairs, &starts));
+    let (lit, numbers) = light(&circuits, &old, &pairs);
+    write_fibres(fibres, &lit);
+    for circuit in &circuits {
+        let wavelength = (rows[circuit.at()] - 1) % w + 1;
         let halves = [circuit.number as u16, (circuit.number >> 16) as u16];
-        let fields = [halves[0], halves[1], fibre as u16, (row % w + 1) as u16];
-        put(assignments, circuit.at(), fields);
+        let place = [numbers[circuit.at()], wavelength].map(|x| x as u16);
+        put(
+            assignments,
+            circuit.at(),
+            [halves[0], halves[1], place[0], place[1]],
+        );
     }
     work[..4 * n + 4 * circuits.len()].fill(0);
-    let total: usize = pairs.iter().map(|f| 2 * (f.last - f.first + 1)).sum();
-    Ok([2 * pairs.len(), total, c.iter().sum()])
+    let total = lit.iter().map(|f| f.last - f.first + 1).sum();
+    Ok([lit.len(), total, c.iter().sum()])
 }

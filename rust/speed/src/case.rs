@@ -1,5 +1,6 @@
-//! One case: the same file to both planners, by turns.
+//! One case: the same file to each planner, by turns.
 use crate::baseline;
+use crate::before::Before;
 use crate::clock;
 use inputs::{encode, Family, Numbers, Rng};
 use std::hint::black_box;
@@ -24,11 +25,28 @@ pub struct Times {
     pub seven: f64,
     /// Plain Rust's, up to the end of test 7.
     pub plain_seven: f64,
+    /// That of the archive before; as large as can be where there is none.
+    pub before: f64,
 }
 
 impl Times {
+    /// Times that any other is better than.
+    const WORST: Self = Self {
+        ours: f64::MAX,
+        plain: f64::MAX,
+        six: f64::MAX,
+        seven: f64::MAX,
+        plain_seven: f64::MAX,
+        before: f64::MAX,
+    };
+
     pub fn ratio(&self) -> f64 {
         self.ours / self.plain
+    }
+
+    /// Ours over the time of the archive before.
+    pub fn ratio_before(&self) -> f64 {
+        self.ours / self.before
     }
 
     /// The ratio without tests 1 to 7 on either side.
@@ -64,6 +82,37 @@ impl Areas {
         self.fibres.fill(0xA5);
         self.assignments.fill(0xA5);
         self.work.fill(0xA5);
+    }
+}
+
+/// What the calls of a case are given.
+struct Lent {
+    file: Vec<u8>,
+    /// The file with a last record that test 6 refuses.
+    spoilt: Vec<u8>,
+    areas: Areas,
+    /// With an assignment list that is too short, so that a call ends after test 7.
+    short: Areas,
+    /// With room for two fibres a circuit, as an archive without R-1 asks for.
+    wide: Areas,
+}
+
+impl Lent {
+    fn new(case: &Case) -> Self {
+        let (file, areas) = (case.file(), Areas::new(case));
+        let mut spoilt = file.clone();
+        let last_link = spoilt.len() - 2;
+        spoilt[last_link..].fill(0);
+        let (mut short, mut wide) = (areas.clone(), areas.clone());
+        short.assignments.pop();
+        wide.fibres.resize(2 * areas.fibres.len(), 0);
+        Self {
+            file,
+            spoilt,
+            areas,
+            short,
+            wide,
+        }
     }
 }
 
@@ -119,61 +168,58 @@ impl Case {
         )
     }
 
-    /// Both answer alike and leave the same bytes.
-    fn check(&self, file: &[u8], areas: &Areas) {
-        let (mut one, mut two) = (areas.clone(), areas.clone());
-        let answer = self.ours(file, &mut one);
+    fn before(&self, planner: &Before, file: &[u8], to: &mut Areas) -> baseline::Answer {
+        let areas = [&mut to.fibres, &mut to.assignments, &mut to.work];
+        let areas = areas.map(Vec::as_mut_slice);
+        planner.plan([self.links, self.wavelengths], file, areas)
+    }
+
+    /// Both answer alike and leave the same bytes; each call that is measured ends where it should.
+    fn check(&self, lent: &mut Lent, before: Option<&Before>) {
+        let (mut one, mut two) = (lent.areas.clone(), lent.areas.clone());
+        let answer = self.ours(&lent.file, &mut one);
         assert!(answer.is_ok(), "{:?} was refused: {answer:?}", self.family);
-        assert_eq!(answer, self.plain(file, &mut two));
+        assert_eq!(answer, self.plain(&lent.file, &mut two));
         assert!(one == two, "{:?}: the bytes differ", self.family);
+        let after_six = self.ours(&lent.spoilt, &mut lent.areas);
+        assert_eq!(after_six, Err((6, self.circuits)));
+        assert_eq!(self.ours(&lent.file, &mut lent.short), Err((9, 0)));
+        assert_eq!(self.plain(&lent.file, &mut lent.short), Err((9, 0)));
+        if let Some(planner) = before {
+            let answer = self.before(planner, &lent.file, &mut lent.wide);
+            assert!(answer.is_ok(), "the archive before refuses: {answer:?}");
+        }
     }
 
-    /// The file with a last record that test 6 refuses.
-    fn spoilt(&self, file: &[u8]) -> Vec<u8> {
-        let mut spoilt = file.to_vec();
-        let last_link = spoilt.len() - 2;
-        spoilt[last_link..].fill(0);
-        spoilt
-    }
-
-    /// The best of so many rounds, each planner once a round.
-    pub fn measure(&self, rounds: usize) -> Times {
-        let file = self.file();
-        let spoilt = self.spoilt(&file);
-        let mut areas = Areas::new(self);
-        self.check(&file, &areas);
-        let mut short = areas.clone();
-        short.assignments.pop();
-        assert_eq!(self.ours(&file, &mut short), Err((9, 0)));
-        assert_eq!(self.plain(&file, &mut short), Err((9, 0)));
-        assert_eq!(self.ours(&spoilt, &mut areas), Err((6, self.circuits)));
-
-        let mut best = Times {
-            ours: f64::MAX,
-            plain: f64::MAX,
-            six: f64::MAX,
-            seven: f64::MAX,
-            plain_seven: f64::MAX,
-        };
+    /// Calls each planner once, and keeps times that are better than those so far.
+    fn round(&self, lent: &mut Lent, before: Option<&Before>, best: &mut Times) {
+        let Lent {
+            file,
+            spoilt,
+            areas,
+            short,
+            wide,
+        } = lent;
         let keep = |best: &mut f64, time: f64| *best = best.min(time);
+        keep(&mut best.ours, timed(areas, |to| self.ours(file, to)));
+        keep(&mut best.plain, timed(areas, |to| self.plain(file, to)));
+        keep(&mut best.six, timed(areas, |to| self.ours(spoilt, to)));
+        keep(&mut best.seven, timed(short, |to| self.ours(file, to)));
+        let plain_seven = timed(short, |to| self.plain(file, to));
+        keep(&mut best.plain_seven, plain_seven);
+        if let Some(planner) = before {
+            let time = timed(wide, |to| self.before(planner, file, to));
+            keep(&mut best.before, time);
+        }
+    }
+
+    /// The best of so many rounds; those of another archive as well, if one is given.
+    pub fn measure(&self, rounds: usize, before: Option<&Before>) -> Times {
+        let mut lent = Lent::new(self);
+        self.check(&mut lent, before);
+        let mut best = Times::WORST;
         for _ in 0..rounds {
-            keep(&mut best.ours, timed(&mut areas, |to| self.ours(&file, to)));
-            keep(
-                &mut best.plain,
-                timed(&mut areas, |to| self.plain(&file, to)),
-            );
-            keep(
-                &mut best.six,
-                timed(&mut areas, |to| self.ours(&spoilt, to)),
-            );
-            keep(
-                &mut best.seven,
-                timed(&mut short, |to| self.ours(&file, to)),
-            );
-            keep(
-                &mut best.plain_seven,
-                timed(&mut short, |to| self.plain(&file, to)),
-            );
+            self.round(&mut lent, before, &mut best);
         }
         best
     }

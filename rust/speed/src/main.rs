@@ -1,10 +1,13 @@
 //! Times of the proved planner beside those of the same planner in plain Rust, as Markdown.
 //!
-//! `speed [ROUNDS]`: the best of so many rounds is taken, 7 if none is named.
+//! `speed [ROUNDS]`: the best of so many rounds is taken, 7 if none is named. Where `FIBRE_PLAN_BEFORE` names another
+//! archive, that one is measured too.
 mod baseline;
+mod before;
 mod case;
 mod clock;
 
+use before::Before;
 use case::{Case, Times};
 use inputs::{Family, Numbers, FAMILIES};
 use std::env;
@@ -55,34 +58,54 @@ fn mean_and_worst(ratios: &[f64]) -> (f64, f64) {
     ((logs / ratios.len() as f64).exp(), worst)
 }
 
-/// A line with the ratios of some cases, as a whole and without tests 1 to 7.
-fn print_ratios(name: &str, measured: &[(Case, Times)], such: impl Fn(&Case) -> bool) {
-    let of = |ratio: fn(&Times) -> f64| -> (f64, f64) {
-        let chosen = measured.iter().filter(|(case, _)| such(case));
-        mean_and_worst(&chosen.map(|(_, times)| ratio(times)).collect::<Vec<_>>())
-    };
-    let (mean, worst) = of(Times::ratio);
-    let (mean_after, worst_after) = of(Times::ratio_after_tests);
-    println!("| {name} | {mean:.2} | {worst:.2} | {mean_after:.2} | {worst_after:.2} |");
+/// The cases of a summary's line.
+type Chosen = Box<dyn Fn(&Case) -> bool>;
+
+/// The lines of a summary: their names, and which cases they are about.
+fn groups() -> Vec<(String, Chosen)> {
+    let mut groups: Vec<(String, Chosen)> = vec![("all".to_owned(), Box::new(|_| true))];
+    for family in FAMILIES {
+        let chosen: Chosen = Box::new(move |case| case.family == family);
+        groups.push((format!("{family:?}"), chosen));
+    }
+    for w in WAVELENGTHS {
+        let chosen: Chosen = Box::new(move |case| case.wavelengths == w);
+        groups.push((format!("w = {w}"), chosen));
+    }
+    for numbers in NUMBERS {
+        let chosen: Chosen = Box::new(move |case| case.numbers == numbers);
+        groups.push((format!("{numbers:?}"), chosen));
+    }
+    groups
+}
+
+/// A line for each group of cases, with the mean and the worst of each of some ratios.
+fn print_ratios(measured: &[(Case, Times)], ratios: &[fn(&Times) -> f64]) {
+    for (name, chosen) in groups() {
+        let times = || measured.iter().filter(|(case, _)| chosen(case));
+        print!("| {name} |");
+        for ratio in ratios {
+            let of_all: Vec<f64> = times().map(|(_, times)| ratio(times)).collect();
+            let (mean, worst) = mean_and_worst(&of_all);
+            print!(" {mean:.2} | {worst:.2} |");
+        }
+        println!();
+    }
 }
 
 fn print_summary(measured: &[(Case, Times)]) {
     println!("| cases | geometric mean | worst | mean without tests 1 to 7 | worst without them |");
     println!("|---|---:|---:|---:|---:|");
-    print_ratios("all", measured, |_| true);
-    for family in FAMILIES {
-        print_ratios(&format!("{family:?}"), measured, |case| {
-            case.family == family
-        });
-    }
-    for w in WAVELENGTHS {
-        print_ratios(&format!("w = {w}"), measured, |case| case.wavelengths == w);
-    }
-    for numbers in NUMBERS {
-        print_ratios(&format!("{numbers:?}"), measured, |case| {
-            case.numbers == numbers
-        });
-    }
+    print_ratios(measured, &[Times::ratio, Times::ratio_after_tests]);
+}
+
+/// Our time over that of the archive before.
+fn print_before(measured: &[(Case, Times)]) {
+    println!("### Ours over the archive before\n");
+    println!("| cases | geometric mean | worst |");
+    println!("|---|---:|---:|");
+    print_ratios(measured, &[Times::ratio_before]);
+    println!();
 }
 
 /// Our time and the ratio for each family, at some sizes.
@@ -101,7 +124,7 @@ fn print_growth(sizes: &[(usize, usize)], rounds: usize) {
                 circuits,
                 wavelengths: 4,
             };
-            let times = case.measure(rounds);
+            let times = case.measure(rounds, None);
             format!(" {:.0} ({:.2}) |", times.ours, times.ratio())
         };
         println!("| {links} | {circuits} |{}", FAMILIES.map(cell).concat());
@@ -112,13 +135,17 @@ fn main() {
     let rounds = env::args().nth(1).map_or(7, |text| {
         text.parse().expect("the argument is a number of rounds")
     });
+    let before = Before::named();
     let measured: Vec<(Case, Times)> = full_size()
         .into_iter()
-        .map(|case| (case, case.measure(rounds)))
+        .map(|case| (case, case.measure(rounds, before.as_ref())))
         .collect();
     println!("### {LINKS} links, {CIRCUITS} circuits, best of {rounds}\n");
     print_summary(&measured);
     println!();
+    if before.is_some() {
+        print_before(&measured);
+    }
     print_cases(&measured);
     println!("\n### Growth: ours in µs, and the ratio; numbers shuffled, w = 4\n");
     print_growth(

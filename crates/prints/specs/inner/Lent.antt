@@ -14,11 +14,11 @@ answerText (Refused number place) m fibres assigns = refusalLine (record { numbe
 
 -- the lists hold what a planned answer counts, which is no more than the limits allow
 abbrev pub Held : Answer → ℕ → List ℕ → List ℕ → Type 0
-Held (Planned counts) m fibres assigns = (counts .fibres ≤ 4096) × (m ≤ 2048) × (8 * counts .fibres ≤ length fibres) × (8 * m ≤ length assigns)
+Held (Planned counts) m fibres assigns = (counts .fibres ≤ 2048) × (m ≤ 2048) × (8 * counts .fibres ≤ length fibres) × (8 * m ≤ length assigns)
 Held (Refused number place) m fibres assigns = Unit
 
 -- areas that hold the plan of any accepted file
 pub record Ample (fibres assigns work : List ℕ) : Type 0 where
-  pub fibres-ample : 32768 ≤ length fibres
+  pub fibres-ample : 16384 ≤ length fibres
   pub assigns-ample : 16384 ≤ length assigns
   pub work-ample : 10240 ≤ length work

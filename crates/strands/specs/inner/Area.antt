@@ -1,4 +1,5 @@
--- What the assignments are read from, the work area once the halves are chosen and the fibre list, and how they are written. Assumes nothing.
+-- What the assignments are read from, the work area once the halves are chosen and the table of the pairs, and how they are written, with fibres counted from 1.
+-- Assumes nothing.
 use Prim.Native.Nat.{ℕ, _+_, _*_, _<_, _≤_}
 use mathlib.Core.Bool.{Bool, cond}
 use mathlib.Core.Path.{_≡_}
@@ -8,12 +9,13 @@ use lib.ListN.{length, getD}
 use Rattle.basics.specs.Tools.{each}
 use Rattle.records.specs.Area.{rowsIn, spareIn}
 use Rattle.records.specs.Bytes.{cellsOf}
-use Rattle.records.specs.Records.{circuitsIn, fibreOf, putRecord, recordAt}
+use Rattle.records.specs.Records.{circuitsIn, putRecord}
 use Rattle.method.specs.Fibres.{given, layers, onFirst, pairOf, pairs}
 use Rattle.method.specs.Line.{Assignment, circuit, noFibre}
 use Rattle.method.specs.Sheet.{most, rows}
 use Rattle.register.specs.Lists.{assignmentRecord, assignmentRecords}
 use Rattle.rows.specs.Accepted.{Accepted}
+use Rattle.strands.specs.inner.Pairs.{HasPairs}
 
 -- in the rows' part stands, for each circuit, twice its row, and 1 more for the second fibre; in the spare part, for each layer, the number of pairs before it
 pub record Marked (n w m : ℕ) (s work : List ℕ) : Type 0 where
@@ -22,26 +24,21 @@ pub record Marked (n w m : ℕ) (s work : List ℕ) : Type 0 where
       → getD (rowsIn n m (cellsOf work)) j 0 ≡ 2 * getD (rows n w (circuitsIn m s)) j 0 + cond (onFirst (circuitsIn m s) (rows n w (circuitsIn m s)) (pairOf n w (circuitsIn m s) (rows n w (circuitsIn m s))) j) 0 1
   pub starts : (h : ℕ) → h < most n w (circuitsIn m s) → getD (spareIn n m (cellsOf work)) h 0 ≡ length (layers n w (circuitsIn m s) h)
 
--- the fibre list has `count` pairs, and their number has two bytes
-pub record HasPairs (count : ℕ) (list : List ℕ) : Type 0 where
-  pub room : 16 * count ≤ length list
-  pub few : count ≤ 65535
-
--- the fibre list has `count` pairs, as many as the method's, and each has the last link of the method's
-pub record Strung (n w m count : ℕ) (s list : List ℕ) : Type 0 where
-  pub there : HasPairs count list
+-- the table has `count` pairs, as many as the method's, and the last link of each
+pub record Strung (n w m count : ℕ) (s table : List ℕ) : Type 0 where
+  pub there : HasPairs count table
   pub count-is : count ≡ length (pairs n w (circuitsIn m s))
-  pub lasts : (i : ℕ) → i < count → (fibreOf (recordAt list (2 * i))) .last ≡ (getD (pairs n w (circuitsIn m s)) i noFibre) .last
+  pub lasts : (i : ℕ) → i < count → getD table i 0 ≡ (getD (pairs n w (circuitsIn m s)) i noFibre) .last
 
--- what the assignments are read from: an accepted file, the work area and the fibre list
-pub record Sources (n w m count : ℕ) (s work list : List ℕ) : Type 0 where
+-- what the assignments are read from: an accepted file, the work area and the table
+pub record Sources (n w m count : ℕ) (s work table : List ℕ) : Type 0 where
   pub accepted : Accepted n w m s
   pub marked : Marked n w m s work
-  pub strung : Strung n w m count s list
+  pub strung : Strung n w m count s table
 
--- whether the fibres of pair i of the list reach link x: their last link is x or a later one
+-- whether pair i of the table reaches link x: its last link is x or a later one
 abbrev pub pairReaches : List ℕ → ℕ → ℕ → Bool
-pairReaches list x i = leb x ((fibreOf (recordAt list (2 * i))) .last)
+pairReaches table x i = leb x (getD table i 0)
 
 -- what circuit j of the file is given
 unfoldable pub givenIn : ℕ → ℕ → ℕ → List ℕ → ℕ → Assignment
@@ -54,15 +51,10 @@ pub record PlacedAt (n w m : ℕ) (s : List ℕ) (j fibre wavelength : ℕ) : Ty
   pub fibre-few : fibre ≤ 2 * m
   pub wavelength-small : wavelength ≤ 65535
 
--- the list has room for m assignments, and the numbers of 2 m fibres have two bytes
-pub record AssignRoom (m from : ℕ) (out : List ℕ) : Type 0 where
-  pub places : 8 * m ≤ length out
-  pub numbers : from + 2 * m ≤ 65535
-
 -- the record of what circuit j is given, at its place in the list
-unfoldable pub putAssignment : ℕ → ℕ → ℕ → ℕ → List ℕ → ℕ → List ℕ → List ℕ
-putAssignment n w m from s j out = putRecord out j (assignmentRecord from (circuit (circuitsIn m s) j) (givenIn n w m s j))
+unfoldable pub putAssignment : ℕ → ℕ → ℕ → List ℕ → ℕ → List ℕ → List ℕ
+putAssignment n w m s j out = putRecord out j (assignmentRecord 0 (circuit (circuitsIn m s) j) (givenIn n w m s j))
 
 -- the records of what the first j circuits are given
-unfoldable pub recordsTo : ℕ → ℕ → ℕ → ℕ → List ℕ → ℕ → List ℕ
-recordsTo n w m from s j = assignmentRecords from (each (circuit (circuitsIn m s)) 0 j) (each (givenIn n w m s) 0 j)
+unfoldable pub recordsTo : ℕ → ℕ → ℕ → List ℕ → ℕ → List ℕ
+recordsTo n w m s j = assignmentRecords 0 (each (circuit (circuitsIn m s)) 0 j) (each (givenIn n w m s) 0 j)

@@ -1,8 +1,9 @@
 //! Lent areas full of noise, and what a planner leaves in them.
 use inputs::Rng;
 use reference::Slip;
+use std::ops::Range;
 
-/// Bytes behind each lent area, which nobody may touch.
+/// The least bytes that stand before and behind each lent area, which nobody may touch.
 const GUARD: usize = 16;
 
 /// One call: its numbers, its circuit file, and the lengths of the three areas.
@@ -41,11 +42,17 @@ impl Input {
         }
     }
 
-    /// The areas before the call: noise that depends only on the input.
-    fn noise(&self) -> [Vec<u8>; 3] {
+    /// Where each lent area stands between its guards: it may start at any address.
+    pub fn lent(&self) -> [Range<usize>; 3] {
+        let from = GUARD + (self.links ^ (self.circuits.len() / 8)) % 8;
+        self.lengths.map(|length| from..from + length)
+    }
+
+    /// The areas before the call, guards included: noise that depends only on the input.
+    pub fn noise(&self) -> [Vec<u8>; 3] {
         let mut rng = Rng::new((self.links ^ self.circuits.len()) as u64);
-        self.lengths.map(|length| {
-            let mut area = vec![0; length + GUARD];
+        self.lent().map(|lent| {
+            let mut area = vec![0; lent.end + GUARD];
             rng.fill(&mut area);
             area
         })
@@ -56,8 +63,8 @@ impl Input {
         let mut areas = self.noise();
         let file = self.circuits.clone();
         let [f, a, k] = &mut areas;
-        let [x, y, z] = self.lengths;
-        let answer = planner(&file, [&mut f[..x], &mut a[..y], &mut k[..z]]);
+        let [x, y, z] = self.lent();
+        let answer = planner(&file, [&mut f[x], &mut a[y], &mut k[z]]);
         assert_eq!(file, self.circuits, "the circuit bytes are only read");
         Seen { answer, areas }
     }

@@ -1,11 +1,11 @@
-//! The library and a reference written from the scope paper agree on every answer and every byte.
+//! The library and a reference written from the papers alone agree on every answer and every byte.
 mod areas;
 mod draws;
 
 use areas::{Answer, Input, Seen};
 use draws::{accepted, damaged, full_size, rng_of, Size, LARGE, MIDDLE, SMALL};
-use inputs::{encode, Numbers, Rng};
-use reference::{Slip, SLIPS};
+use inputs::{encode, ladder, Numbers, Rng};
+use reference::{Slip, BASE_SLIPS, LIT_SLIPS};
 use std::sync::atomic::{AtomicUsize, Ordering};
 use std::thread;
 
@@ -117,9 +117,23 @@ fn repeats_far_apart() {
     }
 }
 
-/// The first records of the assignment list, by rising bytes.
-fn sorted_assignments(seen: &Seen, many: usize) -> Vec<&[u8]> {
-    let mut records: Vec<&[u8]> = seen.areas[1].chunks_exact(8).take(many).collect();
+#[test]
+fn bytes_behind_the_fibres_stay_where_old_pairs_outnumber_them() {
+    for more in [0, 1, 8, 400] {
+        let mut input = Input::new(21, 2, encode(&ladder()));
+        input.lengths[0] += more;
+        assert_eq!(same(&input).map(|[fibres, ..]| fibres), Ok(2));
+        let ([was, ..], [is, ..]) = (input.noise(), input.by_library().areas);
+        let behind = input.lent()[0].start + 2 * 8;
+        assert_eq!(was[behind..], is[behind..]);
+    }
+}
+
+/// The assignment records that a call left, by rising bytes.
+fn sorted_assignments<'a>(input: &Input, seen: &'a Seen) -> Vec<&'a [u8]> {
+    let start = input.lent()[1].start;
+    let list = &seen.areas[1][start..start + input.circuits.len()];
+    let mut records: Vec<&[u8]> = list.chunks_exact(8).collect();
     records.sort_unstable();
     records
 }
@@ -130,14 +144,13 @@ fn file_order_does_not_matter() {
         let size = if i % 100 == 0 { MIDDLE } else { SMALL };
         let mut rng = rng_of(6, i);
         let input = accepted(size, &mut rng);
-        let many = input.circuits.len() / 8;
         let (one, two) = (input.by_library(), shuffled(&input, &mut rng).by_library());
         assert_eq!(one.answer, two.answer);
         assert_eq!(one.areas[0], two.areas[0], "the fibre lists differ");
         // A circuit has one record in each list, and numbers differ: so each has the same one.
         assert_eq!(
-            sorted_assignments(&one, many),
-            sorted_assignments(&two, many)
+            sorted_assignments(&input, &one),
+            sorted_assignments(&input, &two)
         );
     });
 }
@@ -154,7 +167,7 @@ fn shuffled(input: &Input, rng: &mut Rng) -> Input {
 
 #[test]
 fn each_slip_is_noticed() {
-    for slip in SLIPS {
+    for slip in BASE_SLIPS.into_iter().chain(LIT_SLIPS) {
         let differ = AtomicUsize::new(0);
         spread(5_000, |i| {
             let input = accepted(SMALL, &mut rng_of(1, i));

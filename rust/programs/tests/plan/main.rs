@@ -243,7 +243,7 @@ fn a_sheet_that_is_not_whole() {
     for text in [
         "",
         "\\n",
-        "T 4 12 6",
+        "T 2 9 6",
         "F 1 1 1 1\\n",
         "F 1 1 1 1\\nC 7 1 1 192100\\n",
         "F 1 1",

@@ -7,10 +7,10 @@ use Rattle.bench.proofs.inputs.fill.Statement.{statement}
 use Rattle.bench.proofs.inputs.fill.Tie as tie
 
 abbrev Inv-loop : tie.InvT-loop
-Inv-loop buf₀ many last f k₀ buf k = length buf ≡ length buf₀
+Inv-loop buf₀ many last chain f k₀ buf k = length buf ≡ length buf₀
 
 abbrev μ-loop : tie.MeasureT-loop
-μ-loop buf₀ many last f k₀ buf k = many - k
+μ-loop buf₀ many last chain f k₀ buf k = many - k
 
 pub fill-spec : {M : Type 1} → statement M
 fill-spec =
@@ -21,6 +21,8 @@ fill-spec =
     (λ c. search needs)
     (λ c κs. search needs)
     (λ c κs. search needs)
+    (λ c κs. search needs)
+    (λ c. search needs)
     (λ c κs. search needs)
     (λ c. search needs)
     (λ c. search needs)

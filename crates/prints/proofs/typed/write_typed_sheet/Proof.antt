@@ -8,11 +8,11 @@ use Rattle.prints.proofs.typed.write_typed_sheet.Statement.{statement}
 use Rattle.prints.proofs.typed.write_typed_sheet.Tie as tie
 
 -- the sheet ends within the first bytes
-ends : (c : tie.After-of-circuits) → c .before .before .before .write-sheet .result ≤ 213072
+ends : (c : tie.After-of-circuits) → c .before .before .before .write-sheet .result ≤ 147536
 ends c =
     let start = c .before .before .before .before .before .before .before .before in
     let t = c .before .before .before .write-sheet in
-    front-within (sheetOf (start .args .line) (start .args .circuits .now)) (start .args .out .now) _ (t .result) 213072 (omega (arith, start .pre .1)) (t .kept .1 .1 .0) (t .ensures)
+    front-within (sheetOf (start .args .line) (start .args .circuits .now)) (start .args .out .now) _ (t .result) 147536 (omega (arith, start .pre .1)) (t .kept .1 .1 .0) (t .ensures)
 
 sub-write-explained : tie.Need-sub-write-explained
 sub-write-explained c = omega (arith, ends c)
@@ -32,7 +32,7 @@ returns c =
     let start = c .before .before .before .before .before .before .before .before .before .before .before .before in
     let a = start .args in
     let t = c .before .before .before .before .before .before .before .write-sheet in
-    sheet-then (a .text .now) (a .line) (a .circuits .now) (a .out .now) _ _ _ (t .result) 213072 _ (omega (arith, start .pre .1)) (t .kept .1 .1 .0) (t .ensures)
+    sheet-then (a .text .now) (a .line) (a .circuits .now) (a .out .now) _ _ _ (t .result) 147536 _ (omega (arith, start .pre .1)) (t .kept .1 .1 .0) (t .ensures)
     (c .before .before .before .before .of-circuits .ensures) (c .before .before .write-explained .ensures)
 
 pub write-typed-sheet-spec : {M : Type 1} → statement M

@@ -1,7 +1,7 @@
 -- `strands::assigns::write_assignment` meets its contract: circuit, fibre and wavelength of the record are the definition's. Assumes nothing.
 use borrow.Author.Needs.{needs}
-use Prim.Native.Nat.{_+_}
 use mathlib.Core.Path.{_≡_, ap, _∙_, sym}
+use native.Mathlib.Nat.{zero-add}
 use Rattle.records.specs.Records.{circuitsIn, putRecord, assignmentBytes}
 use Rattle.method.specs.Line.{circuit}
 use Rattle.method.proofs.Circuits.{circuit-in}
@@ -20,9 +20,9 @@ number c = let a = start c .args in ap (λ x. x .number) (c .before .circuit-at 
 
 returns : tie.Need-returns
 unfolding putAssignment assignmentRecord
-returns c = let p = c .before .before .before .before .before .before .before in let a = start p .args in
+returns c = let p = c .before .before .before .before .before .before in let a = start p .args in
     c .before .before .put-assignment .ensures
-    ∙ (λ i. putRecord (a .out .now) (a .j) (assignmentBytes (record { circuit = number p i; fibre = a .job .from + p .place-of .ensures .fibre-is i; wavelength = p .place-of .ensures .wavelength-is i })))
+    ∙ (λ i. putRecord (a .out .now) (a .j) (assignmentBytes (record { circuit = number p i; fibre = (p .place-of .ensures .fibre-is ∙ sym (zero-add _)) i; wavelength = p .place-of .ensures .wavelength-is i })))
 
 pub write-assignment-spec : {M : Type 1} → statement M
 write-assignment-spec =
@@ -30,7 +30,6 @@ write-assignment-spec =
     (tie.spec
     (λ c κs. search needs)
     (λ c κs. search needs)
-    (λ c. search needs)
     (λ c. search needs)
     (λ c. search needs)
     (λ c κs. search needs)

@@ -1,0 +1,2 @@
+pub mod Riders
+pub mod inner

@@ -1,0 +1,64 @@
+//! Mistakes to make on purpose, so that a comparison can be seen to fail.
+
+/// A mistake, or none.
+#[derive(Clone, Copy, Debug, PartialEq, Eq)]
+pub enum Slip {
+    /// No mistake.
+    None,
+    /// Of the circuits that fit, the first in the file is placed.
+    TiesByPlace,
+    /// Blue links are open again in the next row.
+    BlueNotKept,
+    /// Where a circuit is free to choose, it gets the second fibre.
+    SecondFirst,
+    /// L(i) / w is rounded down.
+    RoundedDown,
+    /// A circuit may lie over taken links beside the run.
+    TakenNotSeen,
+    /// Every link has the largest c(i).
+    LargestLoad,
+    /// A fibre's length is last link less first.
+    LastLessFirst,
+    /// The work area is left as it was.
+    WorkNotZeroed,
+    /// An old fibre becomes one, from its first to its last used link.
+    GapBridged,
+    /// Circuits of an old fibre that abut and do not overlap get a fibre each.
+    AbuttingSplit,
+    /// Fibres of a layer are numbered by left end, then by old fibre.
+    LeftEndFirst,
+    /// The layers that have fibres are counted from 1.
+    LayersFromOne,
+    /// An old fibre's wavelengths become fibres apart.
+    FibreForEachWavelength,
+    /// Refusal 8 asks for 16 bytes a circuit.
+    RoomForPairs,
+    /// The total is twice the floor.
+    TwiceTheFloor,
+    /// A circuit gets the lowest wavelength that is free on its new fibre.
+    LowestWavelength,
+}
+
+/// The mistakes with the base.
+pub const BASE_SLIPS: [Slip; 8] = [
+    Slip::TiesByPlace,
+    Slip::BlueNotKept,
+    Slip::SecondFirst,
+    Slip::RoundedDown,
+    Slip::TakenNotSeen,
+    Slip::LargestLoad,
+    Slip::LastLessFirst,
+    Slip::WorkNotZeroed,
+];
+
+/// The mistakes with R-1.
+pub const LIT_SLIPS: [Slip; 8] = [
+    Slip::GapBridged,
+    Slip::AbuttingSplit,
+    Slip::LeftEndFirst,
+    Slip::LayersFromOne,
+    Slip::FibreForEachWavelength,
+    Slip::RoomForPairs,
+    Slip::TwiceTheFloor,
+    Slip::LowestWavelength,
+];
