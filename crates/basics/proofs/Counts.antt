@@ -162,6 +162,12 @@ count-apart p q r (suc m) a b =
     (λ e. let z = b m (omega arith) e in rw (e, z .0, z .1) (omega arith))
     (λ e. on (p m) (λ f. rw (e, f, a m (omega arith) f) (omega arith)) (λ f. rw (e, f) (omega arith)))
 
+-- if of each j as many of p and q hold as of r and s, as many pass p and q as pass r and s
+pub count-balance : (p q r s : ℕ → Bool) (m : ℕ) → ((j : ℕ) → j < m → cond (p j) 1 0 + cond (q j) 1 0 ≡ cond (r j) 1 0 + cond (s j) 1 0) → count p m + count q m ≡ count r m + count s m
+unfolding count
+count-balance p q r s zero h = refl
+count-balance p q r s (suc m) h = omega (arith, h m (omega arith), count-balance p q r s m (λ j l. h j (omega arith)))
+
 -- at most one passes, if any two that pass are the same
 pub count-one : (p : ℕ → Bool) (m : ℕ) → ((a b : ℕ) → a < m → b < m → p a ≡ true → p b ≡ true → a ≡ b) → count p m ≤ 1
 unfolding count
@@ -192,11 +198,6 @@ top-times f w B (suc n) h =
     by-le (f (suc n)) (top f n)
     (λ l. let e : max (f (suc n)) (top f n) ≡ top f n = omega arith in rw e (top-times f w B n h))
     (λ l. let e : max (f (suc n)) (top f n) ≡ f (suc n) = omega arith in rw e (h (suc n)))
-
--- one more of what passes
-pub one-more : (t : Bool) (v : ℕ) → cond t (v + 1) v ≡ cond t 1 0 + v
-one-more true v = omega arith
-one-more false v = omega arith
 
 -- two functions that agree from 1 to n have the same largest value
 pub top-same : (f g : ℕ → ℕ) (n : ℕ) → ((x : ℕ) → 1 ≤ x → x ≤ n → f x ≡ g x) → top f n ≡ top g n

@@ -1,5 +1,6 @@
 pub mod Written
 pub mod LoadLaws
+pub mod MarkLaws
 pub mod RedLaws
 pub mod ColourLaws
 pub mod ShownLaws

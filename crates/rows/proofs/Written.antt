@@ -31,11 +31,11 @@ pub at-front : (n : ℕ) (C : List ℕ) (x : ℕ) → 1 ≤ x → x ≤ n → at
 at-front n C x a b = sym (at-get C x a) ∙ sym (getD-take n C (x - 1) 0 (omega arith)) ∙ at-get (take n C) x a
 
 -- a store to link i is found there
-at-set-same : (C : List ℕ) (i v : ℕ) → 1 ≤ i → i ≤ length C → at (set C (i - 1) v) i ≡ v
+pub at-set-same : (C : List ℕ) (i v : ℕ) → 1 ≤ i → i ≤ length C → at (set C (i - 1) v) i ≡ v
 at-set-same C i v l h = sym (at-get (set C (i - 1) v) i l) ∙ getD-set-same C (i - 1) v 0 (omega arith)
 
 -- and changes no other link
-at-set-other : (C : List ℕ) (i x v : ℕ) → 1 ≤ i → x ≢ i → at (set C (i - 1) v) x ≡ at C x
+pub at-set-other : (C : List ℕ) (i x v : ℕ) → 1 ≤ i → x ≢ i → at (set C (i - 1) v) x ≡ at C x
 unfolding at
 at-set-other C i zero v l h = refl
 at-set-other C i (suc x) v l h = getD-set-other C (i - 1) x v 0 (omega arith)

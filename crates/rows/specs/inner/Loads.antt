@@ -1,22 +1,42 @@
 -- What the loops over loads do to the cells of the links. Assumes nothing.
-use Prim.Native.Nat.{ℕ, _+_, _-_, _*_, _/_, _≤_}
-use mathlib.Core.Bool.{cond, _&&_}
+use Prim.Native.Nat.{ℕ, _+_, _-_, _*_, _/_, _%_, _≤_}
 use mathlib.Core.Path.{_≡_}
 use mathlib.Core.List.{List}
-use lib.ListN.{length, take, drop, replicate}
-use lib.Dec.{leb}
-use Rattle.basics.specs.Tools.{each, top}
+use lib.ListN.{length, set, take, drop, replicate}
+use lib.Dec.{eqb}
+use Rattle.basics.specs.Tools.{count, each, sum, top}
 use Rattle.records.specs.Bytes.{cellsOf}
 use Rattle.records.specs.declared.Circuit.{Circuit}
+use Rattle.method.specs.Line.{circuit}
 use Rattle.method.specs.Sheet.{at, need, most}
 
--- the cell of link x, one up if x is one of links a to b
-unfoldable pub oneUpAt : ℕ → ℕ → List ℕ → ℕ → ℕ
-oneUpAt a b C x = cond (leb a x && leb x b) (at C x + 1) (at C x)
+-- a number in a cell of 16 bits, where it wraps around at 65,536
+abbrev pub wrapped : ℕ → ℕ
+wrapped v = v % 65536
 
--- links a to b one up
-abbrev pub oneUp : ℕ → ℕ → ℕ → List ℕ → List ℕ
-oneUp n a b C = each (oneUpAt a b C) 1 n
+-- the cell of link x one up
+abbrev pub markUp : ℕ → List ℕ → List ℕ
+markUp x C = set C (x - 1) (wrapped (at C x + 1))
+
+-- the cell of link x one down, which is 65,535 up; nothing changes if x is past the line
+abbrev pub markDown : ℕ → List ℕ → List ℕ
+markDown x C = set C (x - 1) (wrapped (at C x + 65535))
+
+-- how many of the first j circuits begin at link x
+unfoldable pub beginTo : List Circuit → ℕ → ℕ → ℕ
+beginTo cs j x = count (λ d. eqb ((circuit cs d) .first) x) j
+
+-- how many of the first j circuits end just before link x
+unfoldable pub endTo : List Circuit → ℕ → ℕ → ℕ
+endTo cs j x = count (λ d. eqb ((circuit cs d) .last + 1) x) j
+
+-- the mark of link x after the first j circuits: how many begin there, less how many end just before it
+unfoldable pub markTo : List Circuit → ℕ → ℕ → ℕ
+markTo cs j x = wrapped (65536 + beginTo cs j x - endTo cs j x)
+
+-- the cells of links 1 to x added up
+unfoldable pub sumTo : List ℕ → ℕ → ℕ
+sumTo C x = wrapped (sum (at C) x)
 
 -- each link's cell is at most v
 unfoldable pub Below : ℕ → List ℕ → Type 0

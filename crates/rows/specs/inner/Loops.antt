@@ -3,10 +3,9 @@ use Prim.Native.Nat.{ℕ, _+_, _*_, _≤_, _<_}
 use mathlib.Core.Path.{_≡_}
 use mathlib.Core.List.{List, _++_}
 use lib.ListN.{length, take, drop, replicate}
-use Rattle.basics.specs.Tools.{each, count}
+use Rattle.basics.specs.Tools.{each}
 use Rattle.records.specs.Bytes.{cellsOf}
 use Rattle.records.specs.declared.Circuit.{Circuit}
-use Rattle.method.specs.Line.{circuit, uses}
 use Rattle.method.specs.Sheet.{at, need}
 
 -- a loop that writes f at the links from `start` on, before link i: those are written, the others are as they were
@@ -20,14 +19,6 @@ pub record Written (f : ℕ → ℕ) (start i : ℕ) (C₀ C : List ℕ) : Type 
 -- the same last row for each link
 abbrev pub oneRow : ℕ → ℕ → ℕ
 oneRow v x = v
-
--- what a link gets while links go one up
-abbrev pub upAt : List ℕ → ℕ → ℕ
-upAt C x = at C x + 1
-
--- how many of the first j circuits use link x
-unfoldable pub loadTo : List Circuit → ℕ → ℕ → ℕ
-loadTo cs j x = count (λ d. uses (circuit cs d) x) j
 
 -- while last red rows are written, after i links: the needs are as they were, the first i rows are written
 pub record Reddening (n : ℕ) (f : ℕ → ℕ) (i : ℕ) (C₀ C : List ℕ) : Type 0 where
