@@ -93,7 +93,7 @@ count-split p a zero = rw (add-zero a) (omega arith)
 count-split p a (suc b) = rw (add-suc a b) (omega (arith, count-split p a b))
 
 -- all pass, or none does
-count-all : (p : ℕ → Bool) (r : Bool) (b : ℕ) → ((x : ℕ) → x < b → p x ≡ r) → count p b ≡ cond r b 0
+pub count-all : (p : ℕ → Bool) (r : Bool) (b : ℕ) → ((x : ℕ) → x < b → p x ≡ r) → count p b ≡ cond r b 0
 unfolding count
 count-all p r zero h = on r (λ e. rw e) (λ e. rw e)
 count-all p r (suc b) h =
@@ -204,6 +204,12 @@ pub top-same : (f g : ℕ → ℕ) (n : ℕ) → ((x : ℕ) → 1 ≤ x → x �
 unfolding top
 top-same f g zero h = refl
 top-same f g (suc n) h = ap₂ max (h (suc n) (omega arith) (omega arith)) (top-same f g n (λ x a b. h x a (omega arith)))
+
+-- the largest of smaller numbers is no larger
+pub top-le : (f g : ℕ → ℕ) (n : ℕ) → ((i : ℕ) → f i ≤ g i) → top f n ≤ top g n
+unfolding top
+top-le f g zero h = omega arith
+top-le f g (suc n) h = omega (arith, h (suc n), top-le f g n h)
 
 -- the largest of f 1 .. f i, from the largest before i
 pub top-more : (f : ℕ → ℕ) (i : ℕ) → 1 ≤ i → top f (i + 1 - 1) ≡ max (f i) (top f (i - 1))

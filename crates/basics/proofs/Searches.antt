@@ -10,7 +10,7 @@ use native.Mathlib.Nat.{add-zero}
 use native.Mathlib.Numerals.{add-one}
 use native.Mathlib.Omega.{arith}
 use Rattle.basics.specs.Tools.{any, better, count, every, lowest, seek}
-use Rattle.basics.proofs.Bools.{and-l, and-of, and-r, by-eq, by-le, clash, on, or-false-l, or-false-r}
+use Rattle.basics.proofs.Bools.{and-l, and-of, and-r, by-eq, by-le, clash, never, on, or-false-l, or-false-r}
 use Rattle.basics.proofs.Counts.{count-none, count-some}
 
 -- each passes, so the one at x does
@@ -41,6 +41,12 @@ every-false p i (suc k) e =
     let b = r .2 in
     (r .0, omega arith, omega arith, r .3))
     (λ q. (i, omega arith, omega arith, q))
+
+-- two tests that agree on the places asked are passed alike
+pub every-same : (p q : ℕ → Bool) (i k : ℕ) → ((x : ℕ) → i ≤ x → x < i + k → p x ≡ q x) → every p i k ≡ every q i k
+unfolding every
+every-same p q i zero h = refl
+every-same p q i (suc k) h = rw (h i (omega arith) (omega arith), every-same p q (suc i) k (λ x a b. h x (omega arith) (omega arith)))
 
 -- the place found is not before the start
 pub seek-ge : (p : ℕ → Bool) (i k : ℕ) → i ≤ seek p i k
@@ -153,6 +159,37 @@ lowest-some ok num (suc m) a e = go (ok m) refl (lowest ok num m) refl (lowest-s
               by-eq j m (λ v. omega (arith, ltb-false, ap num t, ap num v)) (λ v. omega (arith, y .least j (omega arith) u, ap num t));
         })
 
+-- two searches find nothing, or the same number
+pub data SameLowest (ok ok' : ℕ → Bool) (num num' : ℕ → ℕ) (m k : ℕ) : Type 0 where
+  -- nothing
+  none-found : lowest ok num m ≡ none → lowest ok' num' k ≡ none → SameLowest ok ok' num num' m k
+  -- the same number
+  both-found : (i j : ℕ) → IsLowest ok num m i → IsLowest ok' num' k j → num i ≡ num' j → lowest ok num m ≡ some i → lowest ok' num' k ≡ some j → SameLowest ok ok' num num' m k
+
+-- that is so if what passes in one has a twin with its number that passes in the other, both ways
+pub lowest-both : (ok ok' : ℕ → Bool) (num num' : ℕ → ℕ) (m k : ℕ)
+    → ((i : ℕ) → i < m → ok i ≡ true → (j : ℕ) × (j < k) × (ok' j ≡ true) × (num' j ≡ num i))
+    → ((j : ℕ) → j < k → ok' j ≡ true → (i : ℕ) × (i < m) × (ok i ≡ true) × (num i ≡ num' j))
+    → SameLowest ok ok' num num' m k
+lowest-both ok ok' num num' m k to fro = go (lowest ok num m) refl (lowest ok' num' k) refl
+  where
+    go : (o : Option ℕ) → lowest ok num m ≡ o → (p : Option ℕ) → lowest ok' num' k ≡ p → SameLowest ok ok' num num' m k
+    go none e none f = none-found e f
+    go none e (some j) f =
+        let y = lowest-some ok' num' k j f in
+        let b = fro j (y .below) (y .passes) in
+        clash (ok (b .0)) (b .2) (lowest-none ok num m e (b .0) (b .1))
+    go (some i) e none f =
+        let y = lowest-some ok num m i e in
+        let b = to i (y .below) (y .passes) in
+        clash (ok' (b .0)) (b .2) (lowest-none ok' num' k f (b .0) (b .1))
+    go (some i) e (some j) f =
+        let y = lowest-some ok num m i e in
+        let z = lowest-some ok' num' k j f in
+        let b = to i (y .below) (y .passes) in
+        let c = fro j (z .below) (z .passes) in
+        both-found i j y z (omega (arith, y .least (c .0) (c .1) (c .2), z .least (b .0) (b .1) (b .2), b .3, c .3)) e f
+
 -- two tests that agree below m
 pub any-eq : (p q : ℕ → Bool) (m : ℕ) → ((j : ℕ) → j < m → p j ≡ q j) → any p m ≡ any q m
 unfolding any
@@ -187,6 +224,14 @@ any-counted p m =
 -- none of them passes, so none does
 pub any-none : (p : ℕ → Bool) (m : ℕ) → ((j : ℕ) → j < m → p j ≡ false) → any p m ≡ false
 any-none p m h = on (any p m) (λ e. let r = any-true p m e in clash (p (r .0)) (r .2) (h (r .0) (r .1))) (λ e. e)
+
+-- some pass in both or in neither, if what passes in one has a twin that passes in the other, both ways
+pub any-both : (p q : ℕ → Bool) (m k : ℕ) → ((i : ℕ) → i < m → p i ≡ true → (j : ℕ) × (j < k) × (q j ≡ true))
+    → ((j : ℕ) → j < k → q j ≡ true → (i : ℕ) × (i < m) × (p i ≡ true)) → any p m ≡ any q k
+any-both p q m k to fro =
+    on (any p m)
+    (λ u. let r = any-true p m u in let s = to (r .0) (r .1) (r .2) in u ∙ sym (any-hit q k (s .0) (s .1) (s .2)))
+    (λ u. u ∙ sym (any-none q k (λ j l. never (q j) (λ e. let r = fro j l e in clash (p (r .0)) (r .2) (any-false p m u (r .0) (r .1))))))
 
 -- place i does not pass: the search before e goes on at i + 1
 pub seek-onward : (p : ℕ → Bool) (i e : ℕ) → i < e → p i ≡ false → seek p i (e - i) ≡ seek p (i + 1) (e - (i + 1))

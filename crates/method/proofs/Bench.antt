@@ -14,6 +14,7 @@ use Rattle.method.specs.Demands.{during, inRow}
 use Rattle.method.specs.Line.{Plan, Valid, assigned, circuit, fibreUnder, overlap, spanLength, total, uses}
 use Rattle.method.specs.LitBench.{litCases, litSlips}
 use Rattle.method.specs.Sheet.{load}
+use Rattle.method.specs.Sides.{sideCases}
 use Rattle.method.proofs.BenchPlans.{tables}
 use Rattle.method.proofs.During.{own-during}
 use Rattle.method.proofs.Intervals.{none-within}
@@ -133,3 +134,7 @@ lit-bench = tables least-five clash-no-row .2
 -- every case of our own table for R-1 holds
 pub our-lit-bench : AllHold litSlips
 our-lit-bench = tables least-five clash-no-row .3
+
+-- the two sides of an idle link, and the whole
+pub side-bench : AllHold sideCases
+side-bench = tables least-five clash-no-row .4

@@ -30,3 +30,9 @@ pub mod LitPinned
 pub mod LitDemands
 pub mod BenchPlans
 pub mod Bench
+pub mod SideLoads
+pub mod SideSpans
+pub mod SideSteps
+pub mod SideRows
+pub mod SidePlan
+pub mod Sides

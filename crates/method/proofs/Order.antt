@@ -5,13 +5,13 @@ use lib.Dec.{eqb, leb}
 use lib.ListN.{getD, length, length-replicate}
 use mathlib.Core.Bool.{Bool, _&&_, cond, false, not, true}
 use mathlib.Core.List.{List, _++_}
-use mathlib.Core.Option.{Option, none, some}
+use mathlib.Core.Option.{none, some}
 use mathlib.Core.Path.{_∙_, _≡_, ap, ap₂, fun-ext, refl, subst, sym}
 use native.Mathlib.Omega.{arith}
 use Rattle.basics.specs.Tools.{any, each, sum, top}
 use Rattle.basics.proofs.Bools.{and-r, by-eq, clash, on}
 use Rattle.basics.proofs.Counts.{pigeonhole}
-use Rattle.basics.proofs.Searches.{IsLowest, any-false, any-true, lowest-none, lowest-some}
+use Rattle.basics.proofs.Searches.{SameLowest, any-both, both-found, lowest-both, none-found}
 use Rattle.basics.proofs.Tables.{getD-each}
 use Rattle.records.specs.declared.Circuit.{Circuit}
 use Rattle.method.specs.Fibres.{assignments, fibres, find, floor, given, inLayer, layer, layerOf, layers, onFirst, onFirstBy, pairOf, pairs, plan, runs, together, twice, wavelengthOf}
@@ -144,7 +144,11 @@ module _ (n w : ℕ) (cs ds : List Circuit) (h : Match cs ds) where
   -- that is so in sheets that are alike
   choices : (s t : State) → Alike s t → Choices s t
   unfolding chosen
-  choices s t a = go (chosen n cs s) refl (chosen n ds t) refl
+  choices s t a =
+      pick
+      (lowest-both ok ok' (λ i. (circuit cs i) .number) (λ j. (circuit ds j) .number) (length cs) (length ds)
+      (λ i l u. let b = twin-to i l (ok-real i u) in (h .there i, b .in-ds, sym (same i (h .there i) b) ∙ u, sym (ap (λ c. c .number) (b .same))))
+      (λ j l u. let b = twin-fro j l (ok-real' j u) in (h .back j, b .in-cs, same (h .back j) j b ∙ u, ap (λ c. c .number) (b .same))))
     where
       -- who may be chosen in the one sheet
       ok : ℕ → Bool
@@ -166,27 +170,13 @@ module _ (n w : ℕ) (cs ds : List Circuit) (h : Match cs ds) where
       same : (i j : ℕ) → Twin i j → ok i ≡ ok' j
       same i j c = ap₂ _&&_ (ap (λ m. eqb m 0) (a .marked i j c)) (ap₂ (fits n) (a .colours) (c .same))
 
-      go : (o : Option ℕ) → chosen n cs s ≡ o → (p : Option ℕ) → chosen n ds t ≡ p → Choices s t
-      go none e none f = neither e f
-      go none e (some j) f =
-          let y : IsLowest ok' (λ j. (circuit ds j) .number) (length ds) j = lowest-some _ _ (length ds) j f in
-          let b = twin-fro j (y .below) (ok-real' j (y .passes)) in
-          clash (ok (h .back j)) (same (h .back j) j b ∙ y .passes) (lowest-none ok (λ i. (circuit cs i) .number) (length cs) e (h .back j) (b .in-cs))
-      go (some i) e none f =
-          let y : IsLowest ok (λ i. (circuit cs i) .number) (length cs) i = lowest-some _ _ (length cs) i e in
-          let b = twin-to i (y .below) (ok-real i (y .passes)) in
-          clash (ok' (h .there i)) (sym (same i (h .there i) b) ∙ y .passes) (lowest-none ok' (λ j. (circuit ds j) .number) (length ds) f (h .there i) (b .in-ds))
-      go (some i) e (some j) f =
-          let y : IsLowest ok (λ i. (circuit cs i) .number) (length cs) i = lowest-some _ _ (length cs) i e in
-          let z : IsLowest ok' (λ j. (circuit ds j) .number) (length ds) j = lowest-some _ _ (length ds) j f in
-          let b = twin-to i (y .below) (ok-real i (y .passes)) in
+      -- one circuit has the lowest number in both
+      pick : SameLowest ok ok' (λ i. (circuit cs i) .number) (λ j. (circuit ds j) .number) (length cs) (length ds) → Choices s t
+      pick (none-found e f) = neither e f
+      pick (both-found i j y z q e f) =
           let c = twin-fro j (z .below) (ok-real' j (z .passes)) in
-          let p : (circuit cs i) .number ≤ (circuit cs (h .back j)) .number = y .least (h .back j) (c .in-cs) (same (h .back j) j c ∙ z .passes) in
-          let q : (circuit ds j) .number ≤ (circuit ds (h .there i)) .number = z .least (h .there i) (b .in-ds) (sym (same i (h .there i) b) ∙ y .passes) in
-          let u : (circuit cs (h .back j)) .number ≡ (circuit ds j) .number = ap (λ c. c .number) (c .same) in
-          let v : (circuit cs i) .number ≡ (circuit ds (h .there i)) .number = ap (λ c. c .number) (b .same) in
-          let r : i ≡ h .back j = h .once i (h .back j) (y .below) (c .in-cs) (b .real) (c .real) (omega arith) in
-          both i j (record { in-cs = y .below; in-ds = z .below; real = b .real; same = ap (circuit cs) r ∙ c .same }) e f
+          let r : i ≡ h .back j = h .once i (h .back j) (y .below) (c .in-cs) (ok-real i (y .passes)) (c .real) (q ∙ sym (ap (λ c. c .number) (c .same))) in
+          both i j (subst (λ i. Twin i j) (sym r) c) e f
 
   -- the run turns blue in both
   quiet : (k : ℕ) (s t : State) → Alike s t → Alike (act n cs k s none) (act n ds k t none)
@@ -261,20 +251,9 @@ module _ (n w : ℕ) (cs ds : List Circuit) (h : Match cs ds) where
   -- some circuit of the one file passes if and only if one of the other does
   pub any-match : (p q : ℕ → Bool) → ((i : ℕ) → i < length cs → p i ≡ true → Real cs i) → ((j : ℕ) → j < length ds → q j ≡ true → Real ds j) → ((i j : ℕ) → Twin i j → p i ≡ q j) → any p (length cs) ≡ any q (length ds)
   any-match p q rp rq e =
-      on (any p (length cs))
-      (λ u.
-      on (any q (length ds)) (λ v. u ∙ sym v)
-      (λ v.
-      let r = any-true p (length cs) u in
-      let b = twin-to (r .0) (r .1) (rp (r .0) (r .1) (r .2)) in
-      clash (q (h .there (r .0))) (sym (e (r .0) (h .there (r .0)) b) ∙ r .2) (any-false q (length ds) v (h .there (r .0)) (b .in-ds))))
-      (λ u.
-      on (any q (length ds))
-      (λ v.
-      let r = any-true q (length ds) v in
-      let b = twin-fro (r .0) (r .1) (rq (r .0) (r .1) (r .2)) in
-      clash (p (h .back (r .0))) (e (h .back (r .0)) (r .0) b ∙ r .2) (any-false p (length cs) u (h .back (r .0)) (b .in-cs)))
-      (λ v. u ∙ sym v))
+      any-both p q (length cs) (length ds)
+      (λ i l u. let b = twin-to i l (rp i l u) in (h .there i, b .in-ds, sym (e i (h .there i) b) ∙ u))
+      (λ j l u. let b = twin-fro j l (rq j l u) in (h .back j, b .in-cs, e (h .back j) j b ∙ u))
 
   -- the same pair
   pair-same : (i j : ℕ) → Twin i j → pairOf n w cs (rows n w cs) i ≡ pairOf n w ds (rows n w ds) j

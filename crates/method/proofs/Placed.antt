@@ -168,15 +168,20 @@ module _ (n w : ℕ) (cs : List Circuit) where
     row-going : (f : ℕ) (s : State) → Going k s₀ s → Going k s₀ (steps n cs f k s)
     row-going = steps-keep n cs k (Going k s₀) painted-going placed-going
 
-  -- THE START OF A ROW: a link is red, blue or open
+  -- THE START OF A ROW: the colour of link i
+  pub fresh-at : (k : ℕ) (colours : List ℕ) (i : ℕ) → 1 ≤ i → i ≤ n → at (fresh n w cs k colours) i ≡ cond (leb k (redTo n w cs i)) red (cond (eqb (at colours i) blue) blue open')
+  unfolding fresh
+  fresh-at k colours i l h = at-each (λ i. cond (leb k (redTo n w cs i)) red (cond (eqb (at colours i) blue) blue open')) n i l h
+
+  -- it is red, blue or open
   begun-cases : {C : Type 0} (k : ℕ) (s : State) (i : ℕ) → 1 ≤ i → i ≤ n
       → (k ≤ redTo n w cs i → at ((begun n w cs k s) .colours) i ≡ red → C)
       → (redTo n w cs i < k → at (s .colours) i ≡ blue → at ((begun n w cs k s) .colours) i ≡ blue → C)
       → (redTo n w cs i < k → at (s .colours) i ≢ blue → at ((begun n w cs k s) .colours) i ≡ open' → C)
       → C
-  unfolding begun fresh
+  unfolding begun
   begun-cases {C} k s i l h f g o =
-      let e : at ((begun n w cs k s) .colours) i ≡ cond (leb k (redTo n w cs i)) red (cond (eqb (at (s .colours) i) blue) blue open') = at-each (λ i. cond (leb k (redTo n w cs i)) red (cond (eqb (at (s .colours) i) blue) blue open')) n i l h in
+      let e = fresh-at k (s .colours) i l h in
       on (leb k (redTo n w cs i))
       (λ a. f (leb-true _ _ a) (rw a at e))
       (λ a. on (eqb (at (s .colours) i) blue)
@@ -188,6 +193,7 @@ module _ (n w : ℕ) (cs : List Circuit) where
     pub sized : length (s .rows) ≡ length cs
     pub not-all-blue : (j : ℕ) → j < length cs → 1 ≤ (circuit cs j) .last → rowOf s j ≡ 0 → (i : ℕ) × (uses (circuit cs j) i ≡ true) × (at (s .colours) i ≢ blue)
     pub room : (i : ℕ) → 1 ≤ i → i ≤ n → at (s .colours) i ≢ blue → waitingOn cs s i + (k - redTo n w cs i) ≤ load cs i
+    pub reddened : (i : ℕ) → 1 ≤ i → i ≤ n → k ≤ redTo n w cs i → at (s .colours) i ≡ red
     pub marked : (j : ℕ) → rowOf s j ≤ k
     pub clear : (j i : ℕ) → rowOf s j ≢ 0 → uses (circuit cs j) i ≡ true → redTo n w cs i < rowOf s j
     pub own : (j : ℕ) → rowOf s j ≢ 0 → (i : ℕ) × Own cs s j i
@@ -243,6 +249,7 @@ module _ (n w : ℕ) (cs : List Circuit) where
               let t : at (end .colours) i ≡ taken =
               by-eq (at (end .colours) i) red (λ u. absurd (omega (arith, g .reds i a b u))) (λ u. omega (arith, g .colour-known i a b, row-closed n cs lies (suc k) (begun n w cs (suc k) s) i a b)) in
               omega (arith, g .gone i a b t, y .room i a b q, waiting-begun i));
+          reddened = g .reddened;
           marked = g .marked;
           clear = g .clear;
           own = λ j h. let o = r .own j h in (o .0, o .1);
@@ -285,6 +292,7 @@ module _ (n w : ℕ) (cs : List Circuit) where
               let a = on-line n cs lies j _ u in
               (_, u, omega (arith, all-red _ (a .0) (a .1)));
           room = λ i a b e. omega (arith, waiting-load cs (sheet n w cs 0) i);
+          reddened = λ i a b e. all-red i a b;
           marked = λ j. omega (arith, all-waiting j);
           clear = λ j i h u. absurd (h (all-waiting j));
           own = λ j h. absurd (h (all-waiting j));

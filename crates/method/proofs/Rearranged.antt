@@ -11,17 +11,21 @@ use Rattle.method.specs.Lit.{litPlan}
 use Rattle.method.proofs.LitOrder.{lit-fibres-match, lit-plan-match}
 use Rattle.method.proofs.Order.{Match, Twin, fibres-match, floor-match, plan-match}
 
--- a rearrangement has no gaps, and no number stands twice in it
+-- no number stands twice in a rearrangement
+pub rearranged-once : (cs ds : List Circuit) → Distinct cs → Rearranged cs ds → Distinct ds
+rearranged-once cs ds once h i j a b e =
+    let x = h .fro i a in
+    let y = h .fro j b in
+    let z : h .back i ≡ h .back j = once (h .back i) (h .back j) (x .0) (y .0) (ap (λ c. c .number) (sym (x .2)) ∙ e ∙ ap (λ c. c .number) (y .2)) in
+    sym (x .1) ∙ ap (h .there) z ∙ y .1
+
+-- nor has it gaps
 rearranged : (n : ℕ) (cs ds : List Circuit) → Lies n cs → Distinct cs → Rearranged cs ds → Match cs ds
 unfolding circuit
 rearranged n cs ds lies once h =
     record {
       once = λ i j a b r s e. once i j a b e;
-      once' = λ i j a b r s e.
-          let x = h .fro i a in
-          let y = h .fro j b in
-          let z : h .back i ≡ h .back j = once (h .back i) (h .back j) (x .0) (y .0) (ap (λ c. c .number) (sym (x .2)) ∙ e ∙ ap (λ c. c .number) (y .2)) in
-          sym (x .1) ∙ ap (h .there) z ∙ y .1;
+      once' = λ i j a b r s e. rearranged-once cs ds once h i j a b e;
       gap = λ i l. lies i l .0;
       gap' = λ j l. let x = h .fro j l in omega (arith, lies (h .back j) (x .0) .0, ap (λ c. c .first) (x .2));
       there = h .there;

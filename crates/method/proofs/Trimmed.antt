@@ -71,7 +71,7 @@ module _ (n w : ℕ) (cs : List Circuit) (p : Plan) (lies : Lies n cs) (v : Vali
     number-is = new-is n cs p j l
 
     -- its new fibre
-    under-is : fibreUnder (trimmed n cs p) j ≡ stretchOf n cs p j
+    pub under-is : fibreUnder (trimmed n cs p) j ≡ stretchOf n cs p j
     under-is = let a = v .numbered j l in under-new n cs p lies j l (a .0) (a .1)
 
     -- has the layer of the old one

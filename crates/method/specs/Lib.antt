@@ -6,3 +6,4 @@ pub mod Lit
 pub mod LitDemands
 pub mod Bench
 pub mod LitBench
+pub mod Sides

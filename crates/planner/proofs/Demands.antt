@@ -13,6 +13,7 @@ use Rattle.method.specs.Demands.{SamePlan}
 use Rattle.method.specs.Fibres.{floor, plan}
 use Rattle.method.specs.Line.{Plan, Valid, assigned, circuit, fibresOver, noFibre, nobody, total, unassigned}
 use Rattle.method.specs.LitDemands.{LitDemand, LitRules, litFibres}
+use Rattle.method.proofs.Rearranged.{rearranged-once}
 use Rattle.refusals.specs.Given.{NoneApplies}
 use Rattle.refusals.specs.Refusals.{Refusal, refusedWith}
 use Rattle.refusals.specs.declared.Verdict.{Verdict}
@@ -29,7 +30,7 @@ use Rattle.planner.specs.Seen.{SameSheet, Seen, Seen1, Seen2, Seen3, Two
 use Rattle.planner.specs.declared.Answer.{Answer}
 use Rattle.planner.specs.declared.Answer.the-variants.{Planned}
 use Rattle.planner.proofs.Accepting.{accepted, of-circuits, promised}
-use Rattle.planner.proofs.Reordered.{reordered-passes}
+use Rattle.planner.proofs.Among.{Among, among-passes}
 
 module _ (line : Line) (s : List ℕ) (before after : Areas) (answer : Answer) (o : Outcome line s before after answer) where
   -- a refusal is the verdict's, and changes nothing
@@ -47,7 +48,7 @@ module _ (line : Line) (s : List ℕ) (before after : Areas) (answer : Answer) (
           (q ∙ (let y : Failed k p ≡ refusedWith r = cc in y), λ i. record { fibres = f i; assigns = g i; work = h i })
 
   -- a planned answer has the plan's numbers, and the lists are written
-  planned-so : (counts : Counts) → answer ≡ Planned counts
+  pub planned-so : (counts : Counts) → answer ≡ Planned counts
       → NoneApplies (tableFor line s before) × (counts ≡ numbersOf line s) × (after .fibres ≡ fibreList 0 ((planOf line s) .fibres) (before .fibres))
       × (after .assigns ≡ assignmentList 0 (circuitsOf s) ((planOf line s) .assignments) (before .assigns))
       × (after .work ≡ zeroedTo (4 * line .links + 4 * (length s / 8)) (before .work))
@@ -194,6 +195,10 @@ seen line s before after answer o =
       demand-3 = seen-3 line s before after answer o;
     }
 
+-- the number of a circuit, read and listed
+pub number-read : (r : List ℕ) (i : ℕ) → i < length r / 8 → (getD (circuitsOf r) i nobody) .number ≡ numberIn r i
+number-read r i h = ap (λ c. c .number) (circuitsIn-at (length r / 8) r i nobody h)
+
 -- TWO CALLS with the same records in another file order, and lent areas of the same lengths
 module _ (line : Line) (s s' : List ℕ) (before after before' after' : Areas) (answer answer' : Answer) (orders : TwoOrders line s s' before after before' after' answer answer')
     (counts : Counts) (e : answer ≡ Planned counts) where
@@ -207,9 +212,21 @@ module _ (line : Line) (s s' : List ℕ) (before after before' after' : Areas) (
       let p = of-circuits line s _ _ _ passed in
       promised line s p .any-order (circuitsOf s') (accepted line s p .file .distinct) (orders .same)
 
+  -- the second call's records are those of the first
+  among : Among s s'
+  among =
+      let a = accepted line s (of-circuits line s _ _ _ passed) in
+      record {
+        whole = omega (arith, orders .long, a .file .whole);
+        few = omega (arith, orders .long);
+        once = rearranged-once (circuitsOf s) (circuitsOf s') (a .file .distinct) (orders .same);
+        from = λ j l. (let x = orders .same .fro j l in (orders .same .back j, x .0, x .2));
+      }
+
   -- the second call's tests leave it too
   passed' : NoneApplies (tableFor line s' before')
-  passed' = rw (orders .rooms .0, orders .rooms .1, orders .rooms .2) (reordered-passes line s s' _ _ _ (orders .long) (orders .same) passed)
+  passed' =
+      among-passes line s s' among _ _ _ _ _ _ (omega (arith, orders .rooms .0)) (omega (arith, orders .rooms .1)) (omega (arith, orders .rooms .2)) passed
 
   -- so it is planned, with the same numbers
   planned-too : answer' ≡ Planned counts
@@ -223,10 +240,6 @@ module _ (line : Line) (s s' : List ℕ) (before after before' after' : Areas) (
       (planned-so line s' before' after' answer' (orders .two) (p .0) (p .1) .1
       ∙ sym numbers
       ∙ sym (planned-so line s before after answer (orders .one) counts e .1))
-
-  -- the number of a circuit, read and listed
-  number-read : (r : List ℕ) (i : ℕ) → i < length r / 8 → (getD (circuitsOf r) i nobody) .number ≡ numberIn r i
-  number-read r i h = ap (λ c. c .number) (circuitsIn-at (length r / 8) r i nobody h)
 
   -- and with the same fibre records, and the same assignment record for each circuit
   pub same-sheet : SameSheet s s' after after' counts answer'

@@ -2,5 +2,6 @@ pub mod Accepting
 pub mod Judging
 pub mod Pinned
 pub mod Settling
-pub mod Reordered
+pub mod Among
 pub mod Demands
+pub mod Sides

@@ -1,3 +1,4 @@
 pub mod Outcome
 pub mod Settled
 pub mod Seen
+pub mod Sides

@@ -1,16 +1,17 @@
 -- Reading the two lists back: the plan that their records hold. Assumes nothing.
-use Prim.Native.Nat.{_*_, _+_, _<_, suc, zero, ℕ}
+use Prim.Native.Nat.{_*_, _+_, _-_, _<_, _≤_, suc, zero, ℕ}
 use lib.ListN.{drop, getD, length, take}
 use lib.Seq.{drop-drop}
 use mathlib.Core.List.{List, [], _++_, _∷_}
 use mathlib.Core.Path.{_∙_, _≡_, ap, ap₂, refl, sym}
+use native.Mathlib.Nat.{zero-add}
 use native.Mathlib.Omega.{arith}
 use Rattle.basics.specs.Tools.{each}
-use Rattle.basics.proofs.Tables.{table-is}
+use Rattle.basics.proofs.Tables.{getD-each, length-each, table-is}
 use Rattle.records.specs.Records.{assignmentOf, fibreOf, recordAt}
 use Rattle.records.specs.declared.Circuit.{Circuit}
 use Rattle.records.proofs.Inverse.{assignment-read-written, fibre-read-written}
-use Rattle.method.specs.Line.{Assignment, Fibre, Plan, noFibre, nobody, unassigned}
+use Rattle.method.specs.Line.{Assignment, Fibre, Plan, assigned, fibreUnder, noFibre, nobody, unassigned}
 use Rattle.register.specs.Lists.{assignmentList, assignmentRecord, assignmentRecords, fibreList, fibreRecord, fibreRecords}
 use Rattle.register.specs.Plans.{placeOf, planIn, spanOf}
 
@@ -80,3 +81,19 @@ plan-read p cs fibres₀ assigns₀ many =
     (table-is noFibre _ fs (λ i h. fibre-read (0 + suc i) (getD fs i noFibre) _ (fibre-record 0 fs _ i h) .1))
     (ap (λ (m : ℕ). each (λ j. placeOf (assignmentOf (recordAt (assignmentRecords 0 cs gs ++ drop (8 * length cs) assigns₀) j))) 0 m) (sym many)
     ∙ table-is unassigned _ gs (λ j h. assignment-read (getD cs j nobody) (getD gs j unassigned) _ (assignment-record 0 cs gs _ j many (omega arith)) .1))
+
+-- what the plan of two lists gives to circuit j is in its assignment record
+pub assigned-in : (k m : ℕ) (fibres assigns : List ℕ) (j : ℕ) → j < m → assigned (planIn k m fibres assigns) j ≡ placeOf (assignmentOf (recordAt assigns j))
+unfolding assigned planIn
+assigned-in k m fibres assigns j h =
+    getD-each (λ j. placeOf (assignmentOf (recordAt assigns j))) 0 m j unassigned h ∙ ap (λ (i : ℕ). placeOf (assignmentOf (recordAt assigns i))) (zero-add j)
+
+-- and its fibre is in the record that this one names
+pub fibre-in : (k m : ℕ) (fibres assigns : List ℕ) (j : ℕ) → j < m
+    → (1 ≤ (assigned (planIn k m fibres assigns) j) .fibre) × ((assigned (planIn k m fibres assigns) j) .fibre ≤ length ((planIn k m fibres assigns) .fibres))
+    → fibreUnder (planIn k m fibres assigns) j ≡ spanOf (fibreOf (recordAt fibres ((assignmentOf (recordAt assigns j)) .fibre - 1)))
+unfolding fibreUnder planIn
+fibre-in k m fibres assigns j h within =
+    let q = (assigned (planIn k m fibres assigns) j) .fibre in
+    getD-each (λ i. spanOf (fibreOf (recordAt fibres i))) 0 k (q - 1) noFibre (omega (arith, within .0, within .1, length-each (λ i. spanOf (fibreOf (recordAt fibres i))) 0 k))
+    ∙ ap (λ (i : ℕ). spanOf (fibreOf (recordAt fibres i))) (zero-add (q - 1) ∙ ap (λ (g : Assignment). g .fibre - 1) (assigned-in k m fibres assigns j h))

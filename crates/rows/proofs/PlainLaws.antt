@@ -15,6 +15,7 @@ use Rattle.method.specs.Line.{Lies, circuit, uses}
 use Rattle.method.specs.Sheet.{State, at, red, blue, taken, open', rowOf, most, need, runFrom, inRun, fits, paint, chosen, act, step, steps, redTo, fresh, begun, row, sheet}
 use Rattle.method.proofs.Closed.{opens, opens-same}
 use Rattle.method.proofs.Colours.{at-each, at-paint, from-same, inRun-same, fits-same}
+use Rattle.method.proofs.Placed.{fresh-at}
 use Rattle.method.proofs.Steps.{step-keeps}
 use Rattle.records.specs.declared.Circuit.{Circuit}
 use Rattle.records.specs.Area.{lastsIn, rowsIn}
@@ -181,13 +182,12 @@ redTo-low n w cs x = red-low (most n w cs) w (need w cs x) (most n w cs * w) (om
 
 -- the colours as row k begins are what the last rows show
 begun-is : (n w k : ℕ) (cs : List Circuit) (K D : List ℕ) → k < 65534 → most n w cs * w ≤ 65533 → Resting n w k cs K D → shown n (suc k) D ≡ alike n (fresh n w cs (suc k) K)
-unfolding fresh
 begun-is n w k cs K D low few y =
     shown-is n (suc k) D (fresh n w cs (suc k) K)
     (λ x a b.
     let r = redTo n w cs x in
     let q = redTo-low n w cs x in
-    let e : at (fresh n w cs (suc k) K) x ≡ cond (leb (suc k) r) red (cond (eqb (at K x) blue) blue open') = at-each (λ i. cond (leb (suc k) (redTo n w cs i)) red (cond (eqb (at K i) blue) blue open')) n x a b in
+    let e = fresh-at n w cs (suc k) K x a b in
     by-le (suc k) r
     (λ h. let z = y .reds x a b h in
     shown-red (suc k) (at D x) (omega arith) (omega arith) ∙ sym (ap tone (e ∙ ap (λ (t : Bool). cond t red (cond (eqb (at K x) blue) blue open')) (le-leb (suc k) r h))))
