@@ -1,7 +1,7 @@
 /* A fibre planner that is proved: every circuit of a line gets a fibre and a wavelength.
  *
  * Build the archive with `rt staticlib exports`, and link target/staticlib/libexports.a (x86-64 Linux).
- * The function keeps nothing between calls, allocates nothing and uses less than 32 KB of stack; several threads may call it at
+ * The function keeps nothing between calls, allocates nothing and uses less than 48 KB of stack; several threads may call it at
  * the same time, each with areas of its own.
  *
  * All records have 8 bytes; all numbers are unsigned and stand low byte first.

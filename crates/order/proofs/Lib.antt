@@ -1,3 +1,4 @@
 pub mod OrderLaws
-pub mod SiftLaws
+pub mod Goals
+pub mod DealLaws
 pub mod ListLaws

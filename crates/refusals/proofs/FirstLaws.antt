@@ -1,14 +1,14 @@
 -- Laws for a loop over records that stops at the first that passes. Assumes nothing.
-use Prim.Native.Nat.{ℕ, suc, _+_, _-_, _<_, _≤_}
+use Prim.Native.Nat.{ℕ, suc, _+_, _<_, _≤_}
 use mathlib.Core.Path.{_≡_, ap, _∙_, sym}
 use mathlib.Core.Bool.{Bool, true, false}
 use mathlib.Core.List.{List}
 use mathlib.Core.Option.{Option, none, some}
 use native.Mathlib.Omega.{arith}
 use borrow.Author.Tests.{lt-ltb, le-ltb}
-use Rattle.basics.specs.Tools.{any, seek}
-use Rattle.basics.proofs.Bools.{by-eq, by-le}
-use Rattle.basics.proofs.Searches.{any-false, seek-first, seek-none}
+use Rattle.basics.specs.Tools.{seek}
+use Rattle.basics.proofs.Bools.{by-eq}
+use Rattle.basics.proofs.Searches.{seek-first, seek-none}
 use Rattle.records.specs.Records.{recordAt, circuitOf, numberIn}
 use Rattle.records.specs.declared.Circuit.{Circuit}
 use Rattle.refusals.specs.declared.Verdict.the-variants.{Checked, Refused}
@@ -36,13 +36,6 @@ module _ (p : ℕ → Bool) where
   -- no record below j passes and j does not: no record below j + 1 passes
   pub none-more : (j : ℕ) → ((i : ℕ) → i < j → p i ≡ false) → p j ≡ false → (i : ℕ) → i < j + 1 → p i ≡ false
   none-more j before f i h = by-eq i j (λ e. rw e f) (λ e. before i (omega arith))
-
-  -- no record below i passes, nor one of the n from i on: no record below i + n passes
-  pub none-further : (i n : ℕ) → ((d : ℕ) → d < i → p d ≡ false) → any (λ k. p (i + k)) n ≡ false → (d : ℕ) → d < i + n → p d ≡ false
-  none-further i n before f d h =
-      by-le i d
-      (λ l. let e : i + (d - i) ≡ d = omega arith in ap p (sym e) ∙ any-false (λ k. p (i + k)) n f (d - i) (omega arith))
-      (λ l. before d l)
 
   -- the refusal of record j is what the test answers, if it is the first that passes
   pub refused-at : (number m x j : ℕ) → j < m → p j ≡ true → ((i : ℕ) → i < j → p i ≡ false)

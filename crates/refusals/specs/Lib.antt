@@ -1,3 +1,4 @@
 pub mod Refusals
 pub mod Table
 pub mod Given
+pub mod inner

@@ -1,11 +1,11 @@
 // The tests, one function each: what is refused, with which number and place; and the chains of them that operations share.
 ghost use mathlib.Core.Path.{_≡_};
-ghost use Prim.Native.Nat.{_+_, _*_, _/_, _≤_};
+ghost use Prim.Native.Nat.{_+_, _*_, _/_, _≤_, _<_};
 ghost use mathlib.Core.Bool.{not, _&&_};
 ghost use lib.ListN.{length};
 ghost use lib.Dec.{leb, ltb};
-ghost use Rattle.basics.specs.Tools.{any};
-ghost use Rattle.refusals.specs.Table.{whenever, badEnds, hasNumber, tested, row1, row2, row3, row4, row5, row6, row7, row8, row9, row10};
+ghost use Rattle.refusals.specs.Table.{whenever, badEnds, tested, row1, row2, row3, row4, row5, row6, row7, row8, row9, row10};
+ghost use Rattle.refusals.specs.inner.Remainders.{remainderOf};
 
 pub mod admit;
 
@@ -116,54 +116,36 @@ pub fn on_line(circuits: &[u8], m: usize, n: usize) -> Verdict
     Verdict::Checked(m)
 }
 
-// Whether one of the 32 records from record i on has the number x. No exit inside the loop, so that several are compared at once.
-fn like_of_32(circuits: &[u8], i: usize, x: u32) -> bool
-    requires { ⌜ 8 * (i + 32) ≤ length (now circuits) ⌝ }
-    ensures { λ r. ⌜ r ≡ any (λ k. hasNumber (now (circuits .entry)) x (i + k)) 32 ⌝ }
+// A remainder of a number: all of its digits count, so that round numbers spread.
+fn remainder(x: u32) -> usize
+    ensures { λ r. ⌜ (r ≡ remainderOf x) × (r < 4096) ⌝ }
 {
-    let mut hit = false;
-    let mut k = 0;
-    while k < 32 {
-        let c = records::circuit_at(circuits, i + k);
-        if c.number == x {
-            hit = true;
-        }
-        k += 1;
-    }
-    hit
+    ((x % 4096 + x / 4096 % 4096 + x / 16777216) % 4096) as usize
 }
 
-// 7: no circuit number stands twice. Each record beside those before it, until one repeats.
+// 7: no circuit number stands twice. Each record beside those before it that have its remainder, until one repeats.
 pub fn unlike(circuits: &[u8], m: usize) -> Verdict
     requires { ⌜ (8 * m ≤ length (now circuits)) × (m ≤ 2048) ⌝ }
     ensures { λ r. ⌜ r ≡ tested (row7 (now (circuits .entry)) m) m ⌝ }
 {
     let mut place: usize = 0;
-    // The remainders of the numbers so far: a number with another one is like none before it.
-    let mut met: [bool; 8192] = [false; 8192];
+    // The last record with each remainder, its place plus 1, and the one before each record; 0 ends a chain.
+    let mut heads: [u16; 4096] = [0; 4096];
+    let mut next: [u16; 2048] = [0; 2048];
     'pairs: for j in 0..m {
         let x = records::circuit_at(circuits, j).number;
-        let r = (x % 8192) as usize;
-        let mut i = j;
-        if met[r] {
-            i = 0;
-        }
-        met[r] = true;
-        while i + 32 <= j {
-            if like_of_32(circuits, i, x) {
-                place = j + 1;
-                break 'pairs;
-            }
-            i += 32;
-        }
-        while i < j {
-            let d = records::circuit_at(circuits, i);
+        let r = remainder(x);
+        let mut z = records::numbers::index(heads[r]);
+        while 0 < z {
+            let d = records::circuit_at(circuits, z - 1);
             if d.number == x {
                 place = j + 1;
                 break 'pairs;
             }
-            i += 1;
+            z = records::numbers::index(next[z - 1]);
         }
+        next[j] = heads[r];
+        heads[r] = (j + 1) as u16;
     }
     if place == 0 {
         return Verdict::Checked(m);

@@ -1,4 +1,5 @@
 //! The planner as a Rust programmer would write it: the same tests, the same bytes, no proof.
+use std::collections::HashSet;
 
 /// Number and place of a refusal.
 pub type Refused = (u32, usize);
@@ -65,14 +66,8 @@ fn read(place: usize, record: &[u8]) -> Circuit {
 
 /// The first circuit that repeats an earlier one's number.
 fn repeated(circuits: &[Circuit]) -> Option<usize> {
-    for (j, later) in circuits.iter().enumerate() {
-        for earlier in &circuits[..j] {
-            if earlier.number == later.number {
-                return Some(j);
-            }
-        }
-    }
-    None
+    let mut seen = HashSet::with_capacity(circuits.len());
+    circuits.iter().position(|c| !seen.insert(c.number))
 }
 
 /// The circuits of a file that no test refuses; `lengths` are those of the lent areas.
