@@ -9,6 +9,11 @@
  *   circuit      number (4 bytes, from 1, no two alike), first link (2), last link (2)
  *   fibre        number (2 bytes, from 1), first link (2), last link (2), layer (2, from 1; a layer may have no fibre)
  *   assignment   circuit number (4 bytes), fibre number (2), wavelength (2, from 1)
+ *
+ * A grid (of ITU-T G.694.1) says how many wavelengths a fibre may carry, and their frequencies; the plan
+ * does not depend on it otherwise. Grid 1 has 40 wavelengths 100 GHz apart: wavelength 1 is 192,100 GHz,
+ * 11 is 193,100 GHz, 40 is 196,000 GHz. Grid 2 has 80 wavelengths 50 GHz apart: wavelength 1 is
+ * 192,100 GHz, 21 is 193,100 GHz, 80 is 196,050 GHz.
  */
 #ifndef FIBRE_PLAN_H
 #define FIBRE_PLAN_H
@@ -22,8 +27,13 @@ extern "C" {
 
 /* The largest values that are accepted. */
 #define FIBRE_PLAN_MAX_LINKS 512
-#define FIBRE_PLAN_MAX_WAVELENGTHS 40
 #define FIBRE_PLAN_MAX_CIRCUITS 2048
+
+/* The grids, and the most wavelengths of each. */
+#define FIBRE_PLAN_GRID_100_GHZ 1
+#define FIBRE_PLAN_GRID_50_GHZ 2
+#define FIBRE_PLAN_MAX_WAVELENGTHS_100_GHZ 40
+#define FIBRE_PLAN_MAX_WAVELENGTHS_50_GHZ 80
 
 /* The bytes that each area must have, for so many circuits and links. There is at most one fibre a circuit. */
 #define FIBRE_PLAN_FIBRE_BYTES(circuits) (8 * (size_t)(circuits))
@@ -40,7 +50,8 @@ extern "C" {
  *      1     the circuit bytes are not a multiple of 8                    0
  *      2     there are more than 2,048 circuits                           0
  *      3     links is not 1 to 512                                        0
- *      4     wavelengths is not 1 to 40                                   0
+ *     12     grid is neither 1 nor 2                                      0
+ *      4     wavelengths is not 1 to 40 (grid 1) or 1 to 80 (grid 2)      0
  *      5     a circuit number is 0                                        the first such record
  *      6     a first link is 0, or past the last, or the last past links  the first such record
  *      7     a circuit number stands twice                                the first that repeats
@@ -60,6 +71,7 @@ typedef struct fibre_plan_answer {
  * used by a circuit that the fibre carries.
  *
  *   links, wavelengths   of the line, and of each fibre; any value is taken
+ *   grid                 FIBRE_PLAN_GRID_100_GHZ or FIBRE_PLAN_GRID_50_GHZ; any value is taken
  *   circuits             circuits_len bytes of circuit records, in any order; only read
  *   fibres               fibres_len bytes; the fibre records are written to its start
  *   assignments          assignments_len bytes; an assignment for each circuit is written to its
@@ -73,7 +85,7 @@ typedef struct fibre_plan_answer {
  * The caller sees to it that each pointer is to so many bytes (and is not NULL, not even where the
  * length is 0, as malloc(0) or the data() of an empty std::vector may be), that the four areas do not overlap, and that nobody else uses the three that are
  * written, or writes to the circuits, during the call. */
-fibre_plan_answer fibre_plan(size_t links, size_t wavelengths,
+fibre_plan_answer fibre_plan(size_t links, size_t wavelengths, size_t grid,
                              const uint8_t *circuits, size_t circuits_len,
                              uint8_t *fibres, size_t fibres_len,
                              uint8_t *assignments, size_t assignments_len,

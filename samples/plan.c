@@ -31,9 +31,9 @@ static void print_assignment(const uint8_t *at) {
 }
 
 int main(void) {
-    fibre_plan_answer answer = fibre_plan(LINKS, WAVELENGTHS, circuits, sizeof circuits,
-                                          fibres, sizeof fibres, assignments, sizeof assignments,
-                                          work, sizeof work);
+    fibre_plan_answer answer = fibre_plan(LINKS, WAVELENGTHS, FIBRE_PLAN_GRID_100_GHZ,
+                                          circuits, sizeof circuits, fibres, sizeof fibres,
+                                          assignments, sizeof assignments, work, sizeof work);
     if (answer.refusal != 0) {
         printf("R %u %u\n", (unsigned)answer.refusal, (unsigned)answer.place);
         return 1;

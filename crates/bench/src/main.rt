@@ -9,38 +9,64 @@ use report::Tally;
 use report::case;
 use report::planned;
 use report::refused;
+use runs::drawn;
+use runs::on_grid;
 use runs::sized;
 
-// The ends of the allowed n, w and numbers of circuits.
+// The ends of the allowed n and w.
 fn limits(t: Tally) -> Tally {
     let t = case(
         t,
         b"case 9, 512 links",
         planned(0, 0, 0),
-        runs::none(512, 1),
+        runs::none(drawn(512, 1)),
     );
-    let t = case(t, b"case 9, 513 links", refused(3, 0), runs::none(513, 1));
-    let t = case(t, b"case 9, 0 links", refused(3, 0), runs::none(0, 1));
-    let t = case(t, b"case 9, w = 40", planned(0, 0, 0), runs::none(1, 40));
-    let t = case(t, b"case 9, w = 41", refused(4, 0), runs::none(1, 41));
-    let t = case(t, b"case 9, w = 0", refused(4, 0), runs::none(1, 0));
+    let t = case(
+        t,
+        b"case 9, 513 links",
+        refused(3, 0),
+        runs::none(drawn(513, 1)),
+    );
+    let t = case(
+        t,
+        b"case 9, 0 links",
+        refused(3, 0),
+        runs::none(drawn(0, 1)),
+    );
+    let t = case(
+        t,
+        b"case 9, w = 40",
+        planned(0, 0, 0),
+        runs::none(drawn(1, 40)),
+    );
+    let t = case(
+        t,
+        b"case 9, w = 41",
+        refused(4, 0),
+        runs::none(drawn(1, 41)),
+    );
+    case(t, b"case 9, w = 0", refused(4, 0), runs::none(drawn(1, 0)))
+}
+
+// The ends of the allowed numbers of circuits.
+fn crowds(t: Tally) -> Tally {
     let t = case(
         t,
         b"case 9, 2048 circuits on 512 links, w = 40",
         planned(52, 26624, 26624),
-        runs::many(512, 40, 2048, 512),
+        runs::many(drawn(512, 40), 2048, 512),
     );
     let t = case(
         t,
         b"case 9, 2048 circuits on 1 of 512 links, w = 1",
         planned(2048, 2048, 2048),
-        runs::many(512, 1, 2048, 1),
+        runs::many(drawn(512, 1), 2048, 1),
     );
     case(
         t,
         b"case 9, 2049 circuits",
         refused(2, 0),
-        runs::many(512, 40, 2049, 512),
+        runs::many(drawn(512, 40), 2049, 512),
     )
 }
 
@@ -64,25 +90,25 @@ fn last_links(t: Tally) -> Tally {
         t,
         b"case 10, first = last = n",
         planned(1, 1, 1),
-        runs::one(5, 1, ends(5, 5)),
+        runs::one(drawn(5, 1), ends(5, 5)),
     );
     let t = case(
         t,
         b"case 10, last = n + 1",
         refused(6, 1),
-        runs::one(5, 1, ends(5, 6)),
+        runs::one(drawn(5, 1), ends(5, 6)),
     );
     let t = case(
         t,
         b"case 10, first = 0",
         refused(6, 1),
-        runs::one(5, 1, ends(0, 1)),
+        runs::one(drawn(5, 1), ends(0, 1)),
     );
     case(
         t,
         b"case 10, first past last",
         refused(6, 1),
-        runs::one(5, 1, ends(3, 2)),
+        runs::one(drawn(5, 1), ends(3, 2)),
     )
 }
 
@@ -115,7 +141,7 @@ fn numbers(t: Tally) -> Tally {
         t,
         b"case 12, number 4294967295",
         planned(1, 1, 1),
-        runs::one(1, 1, numbered(4294967295)),
+        runs::one(drawn(1, 1), numbered(4294967295)),
     )
 }
 
@@ -176,7 +202,96 @@ fn stretches(t: Tally) -> Tally {
     )
 }
 
-// Each fault of the table alone and with each later one: the lower number is given.
+// Grid 2: up to 80 wavelengths.
+fn fifty(t: Tally) -> Tally {
+    let t = case(
+        t,
+        b"R-5, w = 41 on grid 2",
+        planned(0, 0, 0),
+        runs::none(on_grid(1, 41, 2)),
+    );
+    let t = case(
+        t,
+        b"R-5, w = 81 on grid 2",
+        refused(4, 0),
+        runs::none(on_grid(1, 81, 2)),
+    );
+    let t = case(
+        t,
+        b"R-5, w = 81 on grid 1",
+        refused(4, 0),
+        runs::none(on_grid(1, 81, 1)),
+    );
+    case(
+        t,
+        b"R-5, 2048 circuits on 512 links, w = 80 on grid 2",
+        planned(26, 13312, 13312),
+        runs::many(on_grid(512, 80, 2), 2048, 512),
+    )
+}
+
+// Grids that there are not.
+fn no_grid(t: Tally) -> Tally {
+    let t = case(
+        t,
+        b"R-5, grid 0",
+        refused(12, 0),
+        runs::none(on_grid(1, 1, 0)),
+    );
+    let t = case(
+        t,
+        b"R-5, grid 3",
+        refused(12, 0),
+        runs::none(on_grid(1, 1, 3)),
+    );
+    let t = case(
+        t,
+        b"R-5, grid 65537",
+        refused(12, 0),
+        runs::none(on_grid(1, 1, 65537)),
+    );
+    let t = case(
+        t,
+        b"R-5, grid 4294967298",
+        refused(12, 0),
+        runs::none(on_grid(1, 1, 4294967298)),
+    );
+    let t = case(
+        t,
+        b"R-5, grid 3 and w = 0",
+        refused(12, 0),
+        runs::none(on_grid(1, 0, 3)),
+    );
+    case(
+        t,
+        b"R-5, grid 3 and 0 links",
+        refused(3, 0),
+        runs::none(on_grid(0, 1, 3)),
+    )
+}
+
+// Fault 12 and another, in the order of the table: 12 stands just before 4.
+fn with_grid(other: usize) -> Faults {
+    if other < 4 {
+        return Faults {
+            one: other,
+            other: 12,
+        };
+    }
+    Faults { one: 12, other }
+}
+
+// Fault 12 with each other fault.
+fn grid_precedence(t: Tally) -> Tally {
+    let mut tally = t;
+    for other in 1..11 {
+        let f = with_grid(other);
+        tally = report::pair(tally, f, runs::faulty(f));
+    }
+    tally
+}
+
+// Each fault of the table but 12, alone and with each later one: the lower number is given.
 fn precedence(t: Tally) -> Tally {
     let mut tally = t;
     for one in 1..11 {
@@ -194,10 +309,14 @@ fn main() {
         cases: 0,
         differ: 0,
     });
+    let t = crowds(t);
     let t = last_links(t);
     let t = numbers(t);
     let t = lengths(t);
     let t = rooms(t);
     let t = stretches(t);
-    report::close(precedence(t));
+    let t = fifty(t);
+    let t = no_grid(t);
+    let t = precedence(t);
+    report::close(grid_precedence(t));
 }

@@ -126,7 +126,7 @@ fn place(fault: usize) -> usize {
     }
 }
 
-// A case of two faults, of which the lower comes first.
+// A case of two faults, of which the first is given.
 pub fn pair(t: Tally, f: Faults, came: Came) -> Tally {
     files::write_output(b"faults");
     print_field(f.one);

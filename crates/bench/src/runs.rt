@@ -33,6 +33,20 @@ pub struct Came {
     pub work: usize,
 }
 
+// A line on a grid.
+pub fn on_grid(links: usize, wavelengths: usize, grid: usize) -> Line {
+    Line {
+        links,
+        wavelengths,
+        grid,
+    }
+}
+
+// A line on grid 1.
+pub fn drawn(links: usize, wavelengths: usize) -> Line {
+    on_grid(links, wavelengths, 1)
+}
+
 // Room of the given sizes.
 pub fn sized(fibres: usize, assigns: usize, work: usize) -> Room {
     Room {
@@ -103,8 +117,7 @@ fn seen(a: Answer, n: usize, m: usize, fibres: &[u8], assigns: &[u8], work: &[u8
 
 // Plans with so much of the areas lent.
 fn lend(
-    n: usize,
-    w: usize,
+    line: Line,
     circuits: &[u8],
     r: Room,
     fibres: &mut [u8],
@@ -115,24 +128,28 @@ fn lend(
     let a = least(r.assigns, assigns.len());
     let k = least(r.work, work.len());
     let answer = planner::plan(
-        Line {
-            links: n,
-            wavelengths: w,
-        },
+        line,
         circuits,
         &mut fibres[0..f],
         &mut assigns[0..a],
         &mut work[0..k],
     );
-    seen(answer, n, circuits.len() / 8, fibres, assigns, work)
+    seen(
+        answer,
+        line.links,
+        circuits.len() / 8,
+        fibres,
+        assigns,
+        work,
+    )
 }
 
 // Plans over areas that are a few bytes longer than any plan needs.
-fn run(n: usize, w: usize, circuits: &[u8], r: Room) -> Came {
+fn run(line: Line, circuits: &[u8], r: Room) -> Came {
     let mut fibres = [7u8; 16400];
     let mut assigns = [7u8; 16400];
     let mut work = [7u8; 10300];
-    lend(n, w, circuits, r, &mut fibres, &mut assigns, &mut work)
+    lend(line, circuits, r, &mut fibres, &mut assigns, &mut work)
 }
 
 // All of the areas.
@@ -141,10 +158,10 @@ fn ample() -> Room {
 }
 
 // One circuit.
-pub fn one(n: usize, w: usize, c: Circuit) -> Came {
+pub fn one(line: Line, c: Circuit) -> Came {
     let mut buf = [0u8; 8];
     records::put_circuit(&mut buf, 0, c);
-    run(n, w, &buf, ample())
+    run(line, &buf, ample())
 }
 
 // Three circuits on 5 links with 1 wavelength.
@@ -153,25 +170,25 @@ pub fn three(a: Circuit, b: Circuit, c: Circuit) -> Came {
     records::put_circuit(&mut buf, 0, a);
     records::put_circuit(&mut buf, 1, b);
     records::put_circuit(&mut buf, 2, c);
-    run(5, 1, &buf, ample())
+    run(drawn(5, 1), &buf, ample())
 }
 
 // Plans the first bytes of a file of circuits.
-fn file_in(n: usize, w: usize, file: File, r: Room, buf: &mut [u8]) -> Came
+fn file_in(line: Line, file: File, r: Room, buf: &mut [u8]) -> Came
     requires { ⌜ (file .many ≤ 2049) × (file .last ≤ 512) × (8 * file .many ≤ length (now buf)) ⌝ }
 {
     let faults = file.faults;
     inputs::fill(buf, file.many, file.last, file.chain, faults);
     let e = least(file.bytes, buf.len());
-    run(n, w, &buf[0..e], r)
+    run(line, &buf[0..e], r)
 }
 
 // Plans a file of circuits.
-fn file_of(n: usize, w: usize, file: File, r: Room) -> Came
+fn file_of(line: Line, file: File, r: Room) -> Came
     requires { ⌜ (file .many ≤ 2049) × (file .last ≤ 512) ⌝ }
 {
     let mut buf = [0u8; 16393];
-    file_in(n, w, file, r, &mut buf)
+    file_in(line, file, r, &mut buf)
 }
 
 // So many circuits, each from link 1 to `last`, of which so many bytes are given.
@@ -188,22 +205,21 @@ fn faultless(many: usize, last: u16, bytes: usize) -> File
 }
 
 // No circuits.
-pub fn none(n: usize, w: usize) -> Came {
-    file_of(n, w, faultless(0, 1, 0), ample())
+pub fn none(line: Line) -> Came {
+    file_of(line, faultless(0, 1, 0), ample())
 }
 
 // So many circuits, each from link 1 to `last`.
-pub fn many(n: usize, w: usize, many: usize, last: u16) -> Came
+pub fn many(line: Line, many: usize, last: u16) -> Came
     requires { ⌜ (many ≤ 2049) × (last ≤ 512) ⌝ }
 {
-    file_of(n, w, faultless(many, last, 8 * many), ample())
+    file_of(line, faultless(many, last, 8 * many), ample())
 }
 
 // Circuits [1, 3], [3, 5], .., [19, 21], each twice but the first, with 2 wavelengths.
 pub fn chain() -> Came {
     file_of(
-        512,
-        2,
+        drawn(512, 2),
         File {
             many: 19,
             last: 3,
@@ -217,12 +233,12 @@ pub fn chain() -> Came {
 
 // The first bytes of two records, on one link.
 pub fn bytes(length: usize) -> Came {
-    file_of(1, 1, faultless(2, 1, length), ample())
+    file_of(drawn(1, 1), faultless(2, 1, length), ample())
 }
 
 // One circuit on one link, with so much of the areas lent.
 pub fn lent(r: Room) -> Came {
-    file_of(1, 1, faultless(1, 1, 8), r)
+    file_of(drawn(1, 1), faultless(1, 1, 8), r)
 }
 
 // The bad value if the fault is one of the two, else the good one.
@@ -235,7 +251,7 @@ fn either(f: Faults, fault: usize, bad: usize, good: usize) -> usize
 // Four circuits on 10 links with 2 wavelengths, and lent areas that just hold their plan, but for the faults.
 pub fn faulty(f: Faults) -> Came {
     let n = either(f, 3, 513, 10);
-    let w = either(f, 4, 41, 2);
+    let line = on_grid(n, either(f, 4, 41, 2), either(f, 12, 3, 1));
     let m = either(f, 2, 2049, 4);
     let bytes = 8 * m + either(f, 1, 1, 0);
     let r = sized(
@@ -244,8 +260,7 @@ pub fn faulty(f: Faults) -> Came {
         4 * n + 4 * m - either(f, 10, 1, 0),
     );
     file_of(
-        n,
-        w,
+        line,
         File {
             many: m,
             last: 2,

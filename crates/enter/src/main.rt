@@ -23,15 +23,16 @@ fn keep(line: &[u8], circuits: &[u8], message: &[u8]) {
 
 // Reads the text, makes its files and writes them, or prints what is wrong.
 fn read_and_enter(buffer: &mut [u8], line: &mut [u8], circuits: &mut [u8], message: &mut [u8])
-    requires { ⌜ (length (now buffer) ≡ 1048577) × ((length (now line) ≡ 4) × (length (now circuits) ≡ 16384) × (76 ≤ length (now message))) ⌝ }
+    requires { ⌜ (length (now buffer) ≡ 1048577) × ((length (now line) ≡ 6) × (length (now circuits) ≡ 16384) × (76 ≤ length (now message))) ⌝ }
 {
     let got = files::read_input(buffer);
     let made = prints::entering::make_files(got, buffer, line, circuits, message);
     match made {
         Made::Both {
+            line: l,
             circuits: c,
             message: k,
-        } => keep(line, &circuits[0..c], &message[0..k]),
+        } => keep(&line[0..l], &circuits[0..c], &message[0..k]),
         Made::Neither(k) => {
             files::write_output(&message[0..k]);
         }
@@ -42,7 +43,7 @@ fn read_and_enter(buffer: &mut [u8], line: &mut [u8], circuits: &mut [u8], messa
 fn lend(buffer: &mut [u8])
     requires { ⌜ length (now buffer) ≡ 1048577 ⌝ }
 {
-    let mut line = [0u8; 4];
+    let mut line = [0u8; 6];
     let mut circuits = [0u8; 16384];
     let mut message = [0u8; 76];
     read_and_enter(buffer, &mut line, &mut circuits, &mut message);

@@ -1,18 +1,23 @@
 -- Texts worked out, line by line. Assumes nothing.
 use Prim.Native.Nat.{ℕ, suc, _≤_}
+use mathlib.Core.Bool.{true, false}
 use mathlib.Core.List.{List, [], _∷_}
 use mathlib.Core.Option.{none, some}
 use mathlib.Core.Path.{_≡_, _∙_, refl, ap}
 use lib.ListN.{length}
 use borrow.Author.Tests.{leb-true, ltb-true}
 use Rattle.basics.specs.Tools.{seek}
+use Rattle.records.specs.LineFiles.{lineBytes}
+use Rattle.records.specs.Records.{fileOf}
 use Rattle.records.specs.declared.Circuit.{Circuit}
+use Rattle.entry_text.specs.declared.Header.{Header}
 use Rattle.entry_text.specs.declared.Entry.the-variants.{Entered, Wrong}
 use Rattle.entry_text.specs.Entries.{Reading, isSpace, isDigit, lineEnd, wordFrom, wordTo, spelt, numeralIn, wordNumber, wordPast, idleLine, headerIn, circuitIn, circuitsFrom, headerFrom, headed, tooLong, read, after}
 use Rattle.entry_text.specs.Entered.{entryBy, entryOf}
 use Rattle.entry_text.specs.declared.faults.Fault.the-variants.{NumberMissing, Sign, Mark, NoNumber, TooLarge, WordTooMany}
+use Rattle.entry_text.specs.Pair.{filesBy, filesOf}
 use Rattle.entry_text.specs.Lines.{nextLine, afterLines, lineStart, countingLine, lineOfRecord, headerLine}
-use Rattle.entry_text.specs.Faults.{isSign, isMark, digitsTo, wordFault, faultFrom, headerFault, circuitFault, faultAt}
+use Rattle.entry_text.specs.Faults.{isSign, isMark, digitsTo, wordFault, faultFrom, lineFault, faultAt}
 use Rattle.entry_text.proofs.Headings.{read-as, entry-as}
 use Rattle.entry_text.proofs.Readings.{circuits-over, circuits-idle, circuits-full, circuits-more}
 
@@ -20,12 +25,16 @@ use Rattle.entry_text.proofs.Readings.{circuits-over, circuits-idle, ci
 abbrev circuit : ℕ → ℕ → ℕ → Circuit
 circuit number first last = record { number = number; first = first; last = last }
 
+-- five links and two wavelengths, with no grid named
+abbrev fiveTwo : Header
+fiveTwo = record { n = 5; w = 2; grid = 1; named = false }
+
 -- five links, two wavelengths and four circuits: `5 2`, `10 1 3`, `20 2 5`, `30 1 2`, `40 4 5`
 unfoldable pub four : List ℕ
 four = 53 ∷ 32 ∷ 50 ∷ 10 ∷ 49 ∷ 48 ∷ 32 ∷ 49 ∷ 32 ∷ 51 ∷ 10 ∷ 50 ∷ 48 ∷ 32 ∷ 50 ∷ 32 ∷ 53 ∷ 10 ∷ 51 ∷ 48 ∷ 32 ∷ 49 ∷ 32 ∷ 50 ∷ 10 ∷ 52 ∷ 48 ∷ 32 ∷ 52 ∷ 32 ∷ 53 ∷ 10 ∷ []
 
 -- its header
-four-header : headerFrom (suc (length four)) four 0 1 ≡ headed (record { n = 5; w = 2 }) 4 2
+four-header : headerFrom (suc (length four)) four 0 1 ≡ headed fiveTwo 4 2
 unfolding four headerFrom headerIn lineEnd seek idleLine wordFrom isSpace wordNumber wordPast numeralIn wordTo spelt isDigit
 four-header = refl
 
@@ -47,13 +56,13 @@ four-lines =
 -- these circuits are read, in this order
 pub four-circuits : (read four 4) .circuits ≡ circuit 10 1 3 ∷ circuit 20 2 5 ∷ circuit 30 1 2 ∷ circuit 40 4 5 ∷ []
 unfolding four
-four-circuits = ap (λ (r : Reading). r .circuits) (read-as four 4 5 2 4 2 four-short four-header ∙ four-lines)
+four-circuits = ap (λ (r : Reading). r .circuits) (read-as four 4 fiveTwo 4 2 four-short four-header ∙ four-lines)
 
 -- and all four are entered
-pub four-answer : entryOf four 4 ≡ Entered 5 2 4
+pub four-answer : entryOf four 4 ≡ Entered fiveTwo 4
 unfolding four
-four-answer = entry-as four 4 5 2 4 2 four-short four-header
-    ∙ ap (λ (r : Reading). entryBy (headed (record { n = 5; w = 2 }) 4 2) (length (r .circuits)) (r .stopped)) four-lines
+four-answer = entry-as four 4 fiveTwo 4 2 four-short four-header
+    ∙ ap (λ (r : Reading). entryBy (headed fiveTwo 4 2) (length (r .circuits)) (r .stopped)) four-lines
 
 -- its lines, with room for three
 three-lines : circuitsFrom 33 four 4 2 3 ≡ record { circuits = circuit 10 1 3 ∷ circuit 20 2 5 ∷ circuit 30 1 2 ∷ []; stopped = some (record { line = 5; expected = 3 }) }
@@ -67,20 +76,20 @@ three-lines =
 -- with room for three, these are read
 pub three-circuits : (read four 3) .circuits ≡ circuit 10 1 3 ∷ circuit 20 2 5 ∷ circuit 30 1 2 ∷ []
 unfolding four
-three-circuits = ap (λ (r : Reading). r .circuits) (read-as four 3 5 2 4 2 four-short four-header ∙ three-lines)
+three-circuits = ap (λ (r : Reading). r .circuits) (read-as four 3 fiveTwo 4 2 four-short four-header ∙ three-lines)
 
 -- and the fifth line has one too many
 pub three-answer : entryOf four 3 ≡ Wrong 5 3
 unfolding four
-three-answer = entry-as four 3 5 2 4 2 four-short four-header
-    ∙ ap (λ (r : Reading). entryBy (headed (record { n = 5; w = 2 }) 4 2) (length (r .circuits)) (r .stopped)) three-lines
+three-answer = entry-as four 3 fiveTwo 4 2 four-short four-header
+    ∙ ap (λ (r : Reading). entryBy (headed fiveTwo 4 2) (length (r .circuits)) (r .stopped)) three-lines
 
 -- comment lines, blank lines, tabs, carriage returns and no newline at the end
 unfoldable pub spaced : List ℕ
 spaced = 35 ∷ 32 ∷ 116 ∷ 119 ∷ 111 ∷ 10 ∷ 10 ∷ 9 ∷ 53 ∷ 32 ∷ 50 ∷ 13 ∷ 10 ∷ 32 ∷ 13 ∷ 10 ∷ 32 ∷ 32 ∷ 55 ∷ 9 ∷ 49 ∷ 32 ∷ 32 ∷ 50 ∷ 32 ∷ 13 ∷ 10 ∷ 35 ∷ 57 ∷ 32 ∷ 57 ∷ 10 ∷ 52 ∷ 50 ∷ 57 ∷ 52 ∷ 57 ∷ 54 ∷ 55 ∷ 50 ∷ 57 ∷ 53 ∷ 32 ∷ 54 ∷ 53 ∷ 53 ∷ 51 ∷ 53 ∷ 32 ∷ 48 ∷ []
 
 -- its header
-spaced-header : headerFrom (suc (length spaced)) spaced 0 1 ≡ headed (record { n = 5; w = 2 }) 13 4
+spaced-header : headerFrom (suc (length spaced)) spaced 0 1 ≡ headed fiveTwo 13 4
 unfolding spaced headerFrom headerIn lineEnd seek idleLine wordFrom isSpace wordNumber wordPast numeralIn wordTo spelt isDigit
 spaced-header = refl
 
@@ -102,19 +111,19 @@ spaced-lines =
 -- these circuits are read, with the largest numbers that a record holds
 pub spaced-circuits : (read spaced 9) .circuits ≡ circuit 7 1 2 ∷ circuit 4294967295 65535 0 ∷ []
 unfolding spaced
-spaced-circuits = ap (λ (r : Reading). r .circuits) (read-as spaced 9 5 2 13 4 spaced-short spaced-header ∙ spaced-lines)
+spaced-circuits = ap (λ (r : Reading). r .circuits) (read-as spaced 9 fiveTwo 13 4 spaced-short spaced-header ∙ spaced-lines)
 
 -- and both are entered
-pub spaced-answer : entryOf spaced 9 ≡ Entered 5 2 2
+pub spaced-answer : entryOf spaced 9 ≡ Entered fiveTwo 2
 unfolding spaced
-spaced-answer = entry-as spaced 9 5 2 13 4 spaced-short spaced-header
-    ∙ ap (λ (r : Reading). entryBy (headed (record { n = 5; w = 2 }) 13 4) (length (r .circuits)) (r .stopped)) spaced-lines
+spaced-answer = entry-as spaced 9 fiveTwo 13 4 spaced-short spaced-header
+    ∙ ap (λ (r : Reading). entryBy (headed fiveTwo 13 4) (length (r .circuits)) (r .stopped)) spaced-lines
 
 -- no text
 unfoldable pub nothing : List ℕ
 nothing = []
 
--- `n w` was expected in line 1
+-- `n w` or `n w grid` was expected in line 1
 pub nothing-wrong : entryOf nothing 9 ≡ Wrong 1 1
 unfolding nothing entryOf read tooLong headerFrom headerIn circuitsFrom circuitIn idleLine wordNumber wordPast numeralIn wordFrom wordTo lineEnd spelt isSpace isDigit seek
 nothing-wrong = refl
@@ -123,7 +132,7 @@ nothing-wrong = refl
 unfoldable pub one : List ℕ
 one = 53 ∷ 10 ∷ []
 
--- `n w` was expected in line 1
+-- `n w` or `n w grid` was expected in line 1
 pub one-wrong : entryOf one 9 ≡ Wrong 1 1
 unfolding one entryOf read tooLong headerFrom headerIn circuitsFrom circuitIn idleLine wordNumber wordPast numeralIn wordFrom wordTo lineEnd spelt isSpace isDigit seek
 one-wrong = refl
@@ -166,22 +175,22 @@ letter-wrong = refl
 
 -- a number is missing
 pub short-fault : faultAt short 2 2 ≡ NumberMissing
-unfolding short entryOf read tooLong headerFrom headerIn circuitsFrom circuitIn idleLine wordNumber wordPast numeralIn wordFrom wordTo lineEnd spelt isSpace isDigit seek faultAt circuitFault headerFault faultFrom wordFault isSign isMark digitsTo lineStart afterLines nextLine
+unfolding short entryOf read tooLong headerFrom headerIn circuitsFrom circuitIn idleLine wordNumber wordPast numeralIn wordFrom wordTo lineEnd spelt isSpace isDigit seek faultAt lineFault faultFrom wordFault isSign isMark digitsTo lineStart afterLines nextLine
 short-fault = refl
 
 -- a word is too many
 pub long-fault : faultAt long 2 2 ≡ WordTooMany
-unfolding long entryOf read tooLong headerFrom headerIn circuitsFrom circuitIn idleLine wordNumber wordPast numeralIn wordFrom wordTo lineEnd spelt isSpace isDigit seek faultAt circuitFault headerFault faultFrom wordFault isSign isMark digitsTo lineStart afterLines nextLine
+unfolding long entryOf read tooLong headerFrom headerIn circuitsFrom circuitIn idleLine wordNumber wordPast numeralIn wordFrom wordTo lineEnd spelt isSpace isDigit seek faultAt lineFault faultFrom wordFault isSign isMark digitsTo lineStart afterLines nextLine
 long-fault = refl
 
 -- a number is too large
 pub large-fault : faultAt large 2 2 ≡ TooLarge
-unfolding large entryOf read tooLong headerFrom headerIn circuitsFrom circuitIn idleLine wordNumber wordPast numeralIn wordFrom wordTo lineEnd spelt isSpace isDigit seek faultAt circuitFault headerFault faultFrom wordFault isSign isMark digitsTo lineStart afterLines nextLine
+unfolding large entryOf read tooLong headerFrom headerIn circuitsFrom circuitIn idleLine wordNumber wordPast numeralIn wordFrom wordTo lineEnd spelt isSpace isDigit seek faultAt lineFault faultFrom wordFault isSign isMark digitsTo lineStart afterLines nextLine
 large-fault = refl
 
 -- a word is no number
 pub letter-fault : faultAt letter 2 2 ≡ NoNumber
-unfolding letter entryOf read tooLong headerFrom headerIn circuitsFrom circuitIn idleLine wordNumber wordPast numeralIn wordFrom wordTo lineEnd spelt isSpace isDigit seek faultAt circuitFault headerFault faultFrom wordFault isSign isMark digitsTo lineStart afterLines nextLine
+unfolding letter entryOf read tooLong headerFrom headerIn circuitsFrom circuitIn idleLine wordNumber wordPast numeralIn wordFrom wordTo lineEnd spelt isSpace isDigit seek faultAt lineFault faultFrom wordFault isSign isMark digitsTo lineStart afterLines nextLine
 letter-fault = refl
 
 -- a sign: `5 2`, `1 -2 3`
@@ -190,7 +199,7 @@ sign = 53 ∷ 32 ∷ 50 ∷ 10 ∷ 49 ∷ 32 ∷ 45 ∷ 50 ∷ 32 ∷ 51 ∷ 10 
 
 -- the second line has it
 pub sign-fault : faultAt sign 2 2 ≡ Sign
-unfolding sign entryOf read tooLong headerFrom headerIn circuitsFrom circuitIn idleLine wordNumber wordPast numeralIn wordFrom wordTo lineEnd spelt isSpace isDigit seek faultAt circuitFault headerFault faultFrom wordFault isSign isMark digitsTo lineStart afterLines nextLine
+unfolding sign entryOf read tooLong headerFrom headerIn circuitsFrom circuitIn idleLine wordNumber wordPast numeralIn wordFrom wordTo lineEnd spelt isSpace isDigit seek faultAt lineFault faultFrom wordFault isSign isMark digitsTo lineStart afterLines nextLine
 sign-fault = refl
 
 -- a byte order mark before `5 2`
@@ -199,7 +208,7 @@ mark = 239 ∷ 187 ∷ 191 ∷ 53 ∷ 32 ∷ 50 ∷ 10 ∷ []
 
 -- the first line has it
 pub mark-fault : faultAt mark 1 1 ≡ Mark
-unfolding mark entryOf read tooLong headerFrom headerIn circuitsFrom circuitIn idleLine wordNumber wordPast numeralIn wordFrom wordTo lineEnd spelt isSpace isDigit seek faultAt circuitFault headerFault faultFrom wordFault isSign isMark digitsTo lineStart afterLines nextLine
+unfolding mark entryOf read tooLong headerFrom headerIn circuitsFrom circuitIn idleLine wordNumber wordPast numeralIn wordFrom wordTo lineEnd spelt isSpace isDigit seek faultAt lineFault faultFrom wordFault isSign isMark digitsTo lineStart afterLines nextLine
 mark-fault = refl
 
 -- a comment line, `5 2`, a blank line, `7 1 2`
@@ -220,3 +229,54 @@ gaps-first = refl
 pub gaps-second : lineOfRecord gaps 2 ≡ 0
 unfolding gaps lineOfRecord countingLine idleLine lineEnd wordFrom isSpace seek
 gaps-second = refl
+
+-- five links and two wavelengths on grid 2, and no circuit: `5 2 2`
+unfoldable pub finer : List ℕ
+finer = 53 ∷ 32 ∷ 50 ∷ 32 ∷ 50 ∷ 10 ∷ []
+
+-- its header names the grid
+pub finer-answer : entryOf finer 9 ≡ Entered (record { n = 5; w = 2; grid = 2; named = true }) 0
+unfolding finer entryOf read tooLong headerFrom headerIn circuitsFrom circuitIn idleLine wordNumber wordPast numeralIn wordFrom wordTo lineEnd spelt isSpace isDigit seek
+finer-answer = refl
+
+-- so its line's file has six bytes
+pub finer-files : filesOf finer ≡ some (record { line = 5 ∷ 0 ∷ 2 ∷ 0 ∷ 2 ∷ 0 ∷ []; circuits = [] })
+unfolding finer filesOf filesBy fileOf lineBytes entryOf read tooLong headerFrom headerIn circuitsFrom circuitIn idleLine wordNumber wordPast numeralIn wordFrom wordTo lineEnd spelt isSpace isDigit seek
+finer-files = refl
+
+-- no grid is named: `5 2`
+unfoldable pub bare : List ℕ
+bare = 53 ∷ 32 ∷ 50 ∷ 10 ∷ []
+
+-- so its line's file has four bytes
+pub bare-files : filesOf bare ≡ some (record { line = 5 ∷ 0 ∷ 2 ∷ 0 ∷ []; circuits = [] })
+unfolding bare filesOf filesBy fileOf lineBytes entryOf read tooLong headerFrom headerIn circuitsFrom circuitIn idleLine wordNumber wordPast numeralIn wordFrom wordTo lineEnd spelt isSpace isDigit seek
+bare-files = refl
+
+-- a grid that is no number: `5 2 x`
+unfoldable pub gridless : List ℕ
+gridless = 53 ∷ 32 ∷ 50 ∷ 32 ∷ 120 ∷ 10 ∷ []
+
+-- `n w` or `n w grid` was expected in line 1
+pub gridless-wrong : entryOf gridless 9 ≡ Wrong 1 1
+unfolding gridless entryOf read tooLong headerFrom headerIn circuitsFrom circuitIn idleLine wordNumber wordPast numeralIn wordFrom wordTo lineEnd spelt isSpace isDigit seek
+gridless-wrong = refl
+
+-- a word is no number
+pub gridless-fault : faultAt gridless 1 1 ≡ NoNumber
+unfolding gridless entryOf read tooLong headerFrom headerIn circuitsFrom circuitIn idleLine wordNumber wordPast numeralIn wordFrom wordTo lineEnd spelt isSpace isDigit seek faultAt lineFault faultFrom wordFault isSign isMark digitsTo lineStart afterLines nextLine
+gridless-fault = refl
+
+-- a fourth number: `5 2 1 7`
+unfoldable pub wide : List ℕ
+wide = 53 ∷ 32 ∷ 50 ∷ 32 ∷ 49 ∷ 32 ∷ 55 ∷ 10 ∷ []
+
+-- `n w` or `n w grid` was expected in line 1
+pub wide-wrong : entryOf wide 9 ≡ Wrong 1 1
+unfolding wide entryOf read tooLong headerFrom headerIn circuitsFrom circuitIn idleLine wordNumber wordPast numeralIn wordFrom wordTo lineEnd spelt isSpace isDigit seek
+wide-wrong = refl
+
+-- a word is too many
+pub wide-fault : faultAt wide 1 1 ≡ WordTooMany
+unfolding wide entryOf read tooLong headerFrom headerIn circuitsFrom circuitIn idleLine wordNumber wordPast numeralIn wordFrom wordTo lineEnd spelt isSpace isDigit seek faultAt lineFault faultFrom wordFault isSign isMark digitsTo lineStart afterLines nextLine
+wide-fault = refl

@@ -7,12 +7,16 @@ use mathlib.Core.Path.{_≡_, _∙_, sym, ap, refl}
 use native.Mathlib.Numerals.{add-one}
 use native.Mathlib.Omega.{arith}
 use lib.ListN.{length, getD}
-use lib.Dec.{ltb}
+use lib.Dec.{leb, ltb}
 use borrow.Author.Tests.{lt-ltb, le-ltb, ltb-false}
 use Rattle.basics.proofs.Bools.{on, by-le}
+use Rattle.records.specs.LineFiles.{lineBytes, lineIn}
 use Rattle.records.specs.declared.Circuit.{Circuit}
+use Rattle.records.specs.declared.LineFile.the-variants as LineFile
+use Rattle.records.proofs.Inverse.{line-read-written}
+use Rattle.entry_text.specs.declared.Header.{Header}
 use Rattle.entry_text.specs.declared.Entry.the-variants.{Entered, Wrong}
-use Rattle.entry_text.specs.Entries.{Header, Found, Reading, Stop, headed, headless, foundBy, lineEnd, idleLine, wordNumber, numeralIn, headerIn, headerFrom, circuitIn, circuitsFrom, tooLong, read}
+use Rattle.entry_text.specs.Entries.{Found, Reading, Stop, headed, headless, foundBy, lineEnd, idleLine, wordFrom, wordPast, wordNumber, numeralIn, header, headerIn, headerFrom, circuitIn, circuitsFrom, tooLong, read}
 use Rattle.entry_text.specs.Entered.{entryBy, entryOf}
 use Rattle.entry_text.specs.Lines.{nextLine, afterLines, lineStart, countingLine, lineOfRecord, headerLine}
 use Rattle.entry_text.proofs.Places.{line-ge, line-over, from-over, to-over}
@@ -141,39 +145,65 @@ heading-says (suc f) g s i l d h j m v n e =
     (λ t. heading-here g s i l d h j m (headerIn s i (lineEnd s i)) v b t refl n (sym (header-here (suc f) f s i l (lineEnd s i) refl b refl t) ∙ e)))
 
 -- an entry tells that the text is not too long and has a header
-entered : {C : Type 0} (long : Bool) (found : Found) (many : ℕ) (stopped : Option Stop) (n w m : ℕ) → cond long (Wrong 0 4) (entryBy found many stopped) ≡ Entered n w m
-    → ((i l : ℕ) → long ≡ false → found ≡ headed (record { n = n; w = w }) i l → C) → C
-entered true found many stopped n w m e go = absurd (let z : _≡_ {A = ℕ} 0 1 = cc in omega arith)
-entered false (headless l) many stopped n w m e go = absurd (let z : _≡_ {A = ℕ} 0 1 = cc in omega arith)
-entered false (headed h i l) many none n w m e go = let a : h .n ≡ n = cc in let b : h .w ≡ w = cc in go i l refl (rw (← a, ← b))
-entered false (headed h i l) many (some stop) n w m e go = absurd (let z : _≡_ {A = ℕ} 0 1 = cc in omega arith)
+entered : {C : Type 0} (long : Bool) (found : Found) (many : ℕ) (stopped : Option Stop) (g : Header) (m : ℕ) → cond long (Wrong 0 4) (entryBy found many stopped) ≡ Entered g m
+    → ((i l : ℕ) → long ≡ false → found ≡ headed g i l → C) → C
+entered true found many stopped g m e go = absurd (let z : _≡_ {A = ℕ} 0 1 = cc in omega arith)
+entered false (headless l) many stopped g m e go = absurd (let z : _≡_ {A = ℕ} 0 1 = cc in omega arith)
+entered false (headed h i l) many none g m e go = let a : h ≡ g = cc in go i l refl (rw a)
+entered false (headed h i l) many (some stop) g m e go = absurd (let z : _≡_ {A = ℕ} 0 1 = cc in omega arith)
 
--- what the lines of a text say that is entered: the header's line n and w, and the line of circuit k + 1 the circuit that was read at k
-lines-say : (s : List ℕ) (room n w m : ℕ) (d : Circuit) → entryOf s room ≡ Entered n w m
-    → (SaysHeader s (headerLine s) (record { n = n; w = w })) × ((k : ℕ) → k < m → SaysCircuit s (lineOfRecord s (suc k)) (getD ((read s room) .circuits) k d))
+-- what the lines of a text say that is entered: the header's line the header, and the line of circuit k + 1 the circuit that was read at k
+lines-say : (s : List ℕ) (room : ℕ) (g : Header) (m : ℕ) (d : Circuit) → entryOf s room ≡ Entered g m
+    → (SaysHeader s (headerLine s) g) × ((k : ℕ) → k < m → SaysCircuit s (lineOfRecord s (suc k)) (getD ((read s room) .circuits) k d))
 unfolding entryOf lineOfRecord tooLong
-lines-say s room n w m d e =
-    entered (tooLong s) (headerFrom (suc (length s)) s 0 1) (length ((read s room) .circuits)) ((read s room) .stopped) n w m e
+lines-say s room g m d e =
+    entered (tooLong s) (headerFrom (suc (length s)) s 0 1) (length ((read s room) .circuits)) ((read s room) .stopped) g m e
     (λ i l long found.
-    let r = read-as s room n w i l (ltb-false 1048576 (length s) long) found in
-    let x = heading-says (suc (length s)) (suc (length s)) s 0 1 d (record { n = n; w = w }) i l (omega arith) (numbered-first s) found in (
+    let r = read-as s room g i l (ltb-false 1048576 (length s) long) found in
+    let x = heading-says (suc (length s)) (suc (length s)) s 0 1 d g i l (omega arith) (numbered-first s) found in (
       x .0,
-      λ k h. rw r (x .1 room k (let y = counted s room n w m (entryOf s room) refl e in let z = ap (λ (t : Reading). length (t .circuits)) r in omega arith)),
+      λ k h. rw r (x .1 room k (let y = counted s room g m (entryOf s room) refl e in let z = ap (λ (t : Reading). length (t .circuits)) r in omega arith)),
     ))
 
 -- the line of circuit k + 1 says the circuit that was read at k
-pub line-says : (s : List ℕ) (room n w m k : ℕ) (d : Circuit) → entryOf s room ≡ Entered n w m → k < m
+pub line-says : (s : List ℕ) (room : ℕ) (g : Header) (m k : ℕ) (d : Circuit) → entryOf s room ≡ Entered g m → k < m
     → circuitIn s (lineStart s (lineOfRecord s (suc k))) (lineEnd s (lineStart s (lineOfRecord s (suc k)))) ≡ some (getD ((read s room) .circuits) k d)
-line-says s room n w m k d e h = (lines-say s room n w m d e) .1 k h .1
+line-says s room g m k d e h = (lines-say s room g m d e) .1 k h .1
 
 -- that line has a number, counted from 1
-pub line-counts : (s : List ℕ) (room n w m k : ℕ) → entryOf s room ≡ Entered n w m → k < m → 1 ≤ lineOfRecord s (suc k)
-line-counts s room n w m k e h = (lines-say s room n w m (record { number = 0; first = 0; last = 0 }) e) .1 k h .0
+pub line-counts : (s : List ℕ) (room : ℕ) (g : Header) (m k : ℕ) → entryOf s room ≡ Entered g m → k < m → 1 ≤ lineOfRecord s (suc k)
+line-counts s room g m k e h = (lines-say s room g m (record { number = 0; first = 0; last = 0 }) e) .1 k h .0
 
--- the header's line says n and w
-pub header-says : (s : List ℕ) (room n w m : ℕ) → entryOf s room ≡ Entered n w m
-    → headerIn s (lineStart s (headerLine s)) (lineEnd s (lineStart s (headerLine s))) ≡ some (record { n = n; w = w })
-header-says s room n w m e = (lines-say s room n w m (record { number = 0; first = 0; last = 0 }) e) .0 .1
+-- the header's line says the header
+pub header-says : (s : List ℕ) (room : ℕ) (g : Header) (m : ℕ) → entryOf s room ≡ Entered g m
+    → headerIn s (lineStart s (headerLine s)) (lineEnd s (lineStart s (headerLine s))) ≡ some g
+header-says s room g m e = (lines-say s room g m (record { number = 0; first = 0; last = 0 }) e) .0 .1
+
+-- a header that does not name the grid is on grid 1
+unnamed : (n w : Option ℕ) (two : Bool) (grid : Option ℕ) (end : Bool) (g : Header) → header n w two grid end ≡ some g → g .named ≡ false → g .grid ≡ 1
+unnamed (some n) (some w) true grid end g e h =
+    let y : record { n = n; w = w; grid = 1; named = false } ≡ g = cc in ap (λ (z : Header). z .grid) (sym y)
+unnamed (some n) (some w) false (some grid) true g e h =
+    let y : record { n = n; w = w; grid = grid; named = true } ≡ g = cc in
+    let z : true ≡ false = ap (λ (z : Header). z .named) y ∙ h in
+    absurd (let x : _≡_ {A = ℕ} 0 1 = cc in omega arith)
+unnamed (some n) (some w) false (some grid) false g e h = absurd (let z : _≡_ {A = ℕ} 0 1 = cc in omega arith)
+unnamed (some n) (some w) false none end g e h = absurd (let z : _≡_ {A = ℕ} 0 1 = cc in omega arith)
+unnamed (some n) none two grid end g e h = absurd (let z : _≡_ {A = ℕ} 0 1 = cc in omega arith)
+unnamed none w two grid end g e h = absurd (let z : _≡_ {A = ℕ} 0 1 = cc in omega arith)
+
+-- the line's file of a text that is entered says what its header says
+pub line-file-says : (s : List ℕ) (room : ℕ) (g : Header) (m : ℕ) → entryOf s room ≡ Entered g m
+    → lineIn (lineBytes (g .n) (g .w) (g .grid) (g .named)) ≡ LineFile.Says (record { links = g .n; wavelengths = g .w; grid = g .grid })
+unfolding headerIn
+line-file-says s room g m e =
+    let i = lineStart s (headerLine s) in
+    let o = lineEnd s i in
+    let p = wordPast s i o in
+    let q = wordPast s p o in
+    line-read-written (g .n) (g .w) (g .grid) (g .named)
+    (unnamed (wordNumber s i o 65536) (wordNumber s p o 65536) (leb o (wordFrom s q o)) (wordNumber s q o 65536) (leb o (wordFrom s (wordPast s q o) o)) g
+    (header-says s room g m e))
 
 -- past the text no line says a header
 no-header : (s : List ℕ) (i : ℕ) → length s ≤ i → headerIn s i (lineEnd s i) ≡ none
@@ -239,14 +269,14 @@ stop-says (suc f) s i l room p n u e =
 -- a wrong line, with 1 or 2 expected, tells that the text has no header, or that it is not too long and reading stopped there
 wrong : {C : Type 0} (long : Bool) (found : Found) (many : ℕ) (stopped : Option Stop) (l x : ℕ) → cond long (Wrong 0 4) (entryBy found many stopped) ≡ Wrong l x → x < 3
     → (found ≡ headless l → x ≡ 1 → C)
-    → ((n w i k : ℕ) → long ≡ false → found ≡ headed (record { n = n; w = w }) i k → stopped ≡ some (record { line = l; expected = x }) → C) → C
+    → ((g : Header) (i k : ℕ) → long ≡ false → found ≡ headed g i k → stopped ≡ some (record { line = l; expected = x }) → C) → C
 wrong true found many stopped l x e u lacks stops = let z : 4 ≡ x = cc in absurd (omega arith)
 wrong false (headless k) many stopped l x e u lacks stops = let y : k ≡ l = cc in let z : 1 ≡ x = cc in lacks (rw y) (sym z)
 wrong false (headed h i k) many none l x e u lacks stops = absurd (let z : _≡_ {A = ℕ} 0 1 = cc in omega arith)
 wrong false (headed h i k) many (some stop) l x e u lacks stops =
     let y : stop .line ≡ l = cc in
     let z : stop .expected ≡ x = cc in
-    stops (h .n) (h .w) i k refl refl (rw (← y, ← z))
+    stops h i k refl refl (rw (← y, ← z))
 
 -- what the line says that is told as wrong: with 1 expected no header, with 2 no circuit
 wrong-says : {C : Type 0} (s : List ℕ) (room l x : ℕ) → entryOf s room ≡ Wrong l x → x < 3 → (x ≡ 1 → headerIn s (lineStart s l) (lineEnd s (lineStart s l)) ≡ none → C)
@@ -255,9 +285,9 @@ unfolding entryOf tooLong
 wrong-says s room l x e u header circuit =
     wrong (tooLong s) (headerFrom (suc (length s)) s 0 1) (length ((read s room) .circuits)) ((read s room) .stopped) l x e u
     (λ found y. header y (headless-says (suc (length s)) s 0 1 l (omega arith) (numbered-first s) found))
-    (λ n w i k long found stopped.
-    let r = read-as s room n w i k (ltb-false 1048576 (length s) long) found in
-    let h = heading-says (suc (length s)) (suc (length s)) s 0 1 (record { number = 0; first = 0; last = 0 }) (record { n = n; w = w }) i k (omega arith) (numbered-first s) found in
+    (λ g i k long found stopped.
+    let r = read-as s room g i k (ltb-false 1048576 (length s) long) found in
+    let h = heading-says (suc (length s)) (suc (length s)) s 0 1 (record { number = 0; first = 0; last = 0 }) g i k (omega arith) (numbered-first s) found in
     let z = stop-says (suc (length s)) s i k room (record { line = l; expected = x }) (h .2) u (rw r at stopped) in
     circuit (z .0) (z .1))
 

@@ -11,10 +11,10 @@ use Rattle.entry_text.specs.declared.Entry.{Entry}
 use Rattle.entry_text.specs.declared.Entry.the-variants.{Entered, Wrong}
 use Rattle.entry_text.specs.Entries.{Stop, Found, headed, headless, headerFrom, tooLong, read}
 
--- n, w and how many circuits, or the line that is wrong and what was expected there
+-- the header and how many circuits, or the line that is wrong and what was expected there
 abbrev pub entryBy : Found → ℕ → Option Stop → Entry
 entryBy (headless l) many stopped = Wrong l 1
-entryBy (headed h i l) many none = Entered (h .n) (h .w) many
+entryBy (headed h i l) many none = Entered h many
 entryBy (headed h i l) many (some stop) = Wrong (stop .line) (stop .expected)
 
 -- the answer for a text, with room for so many circuits

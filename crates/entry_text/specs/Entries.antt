@@ -1,5 +1,5 @@
 -- What a text of circuits says. What a reader must believe.
--- The first line that counts is `n w`; each further line that counts is `number first last`. Blank lines and lines that begin with # do not count.
+-- The first line that counts is `n w` or `n w grid`; each further line that counts is `number first last`. Blank lines and lines that begin with # do not count.
 -- Assumes nothing.
 use Prim.Native.Nat.{ℕ, zero, suc, _+_, _-_, _*_}
 use mathlib.Core.Bool.{Bool, true, false, not, _&&_, _||_, cond}
@@ -9,6 +9,7 @@ use lib.ListN.{length, getD}
 use lib.Dec.{leb, ltb, eqb}
 use Rattle.basics.specs.Tools.{seek}
 use Rattle.records.specs.declared.Circuit.{Circuit}
+use Rattle.entry_text.specs.declared.Header.{Header}
 
 -- byte x of the text
 abbrev pub byte : List ℕ → ℕ → ℕ
@@ -60,22 +61,20 @@ wordPast s i e = wordTo s (wordFrom s i e) e
 unfoldable pub idleLine : List ℕ → ℕ → ℕ → Bool
 idleLine s i e = leb e (wordFrom s i e) || eqb (byte s (wordFrom s i e)) 35
 
--- two numbers, n and w
-pub record Header : Type 0 where
-  pub n : ℕ
-  pub w : ℕ
+-- n and w with nothing after them, which is grid 1, or n, w and a grid with nothing after them
+abbrev pub header : Option ℕ → Option ℕ → Bool → Option ℕ → Bool → Option Header
+header (some n) (some w) true grid whole = some (record { n = n; w = w; grid = 1; named = false })
+header (some n) (some w) false (some grid) true = some (record { n = n; w = w; grid = grid; named = true })
+header (some n) (some w) false (some grid) false = none
+header (some n) (some w) false none whole = none
+header (some n) none short grid whole = none
+header none w short grid whole = none
 
--- both, if both are there
-abbrev pub header : Option ℕ → Option ℕ → Bool → Option Header
-header (some n) (some w) true = some (record { n = n; w = w })
-header (some n) (some w) false = none
-header (some n) none b = none
-header none w b = none
-
--- the line from i to e says just two numbers of two bytes
+-- the line from i to e says just two or three numbers of two bytes
 unfoldable pub headerIn : List ℕ → ℕ → ℕ → Option Header
 headerIn s i e =
     header (wordNumber s i e 65536) (wordNumber s (wordPast s i e) e 65536) (leb e (wordFrom s (wordPast s (wordPast s i e) e) e))
+    (wordNumber s (wordPast s (wordPast s i e) e) e 65536) (leb e (wordFrom s (wordPast s (wordPast s (wordPast s i e) e) e) e))
 
 -- a circuit, if its three numbers are there
 abbrev pub circuitOf3 : Option ℕ → Option ℕ → Option ℕ → Bool → Option Circuit
@@ -91,8 +90,8 @@ circuitIn s i e =
     circuitOf3 (wordNumber s i e 4294967296) (wordNumber s (wordPast s i e) e 65536) (wordNumber s (wordPast s (wordPast s i e) e) e 65536)
     (leb e (wordFrom s (wordPast s (wordPast s (wordPast s i e) e) e) e))
 
--- where reading stopped: the line, counted from 1, and what was expected there: 1 for `n w`, 2 for
--- `number first last`, 3 for no more circuits, 4 for a shorter text
+-- where reading stopped: the line, counted from 1, and what was expected there: 1 for `n w` or
+-- `n w grid`, 2 for `number first last`, 3 for no more circuits, 4 for a shorter text
 pub record Stop : Type 0 where
   pub line : ℕ
   pub expected : ℕ

@@ -37,20 +37,13 @@ abbrev pub orFault : Option ℕ → Fault → Fault → Fault
 orFault none fault rest = fault
 orFault (some v) fault rest = rest
 
--- what is wrong with the line from i to e, as `n w`: its first word that is no number of two bytes, or else a word too many
-unfoldable pub headerFault : List ℕ → ℕ → ℕ → Fault
-headerFault s i e =
-    orFault (wordNumber s i e 65536) (faultFrom s i e)
-    (orFault (wordNumber s (wordPast s i e) e 65536) (faultFrom s (wordPast s i e) e) WordTooMany)
-
--- what is wrong with the line from i to e, as `number first last`: its first word that is no number of four, two and two bytes, or else a word too many
-unfoldable pub circuitFault : List ℕ → ℕ → ℕ → Fault
-circuitFault s i e =
-    orFault (wordNumber s i e 4294967296) (faultFrom s i e)
+-- what is wrong with the line from i to e, which was not read: the first of three words that is no number, the first below the limit and the others of two bytes, or else a word too many
+unfoldable pub lineFault : List ℕ → ℕ → ℕ → ℕ → Fault
+lineFault s i e limit =
+    orFault (wordNumber s i e limit) (faultFrom s i e)
     (orFault (wordNumber s (wordPast s i e) e 65536) (faultFrom s (wordPast s i e) e)
     (orFault (wordNumber s (wordPast s (wordPast s i e) e) e 65536) (faultFrom s (wordPast s (wordPast s i e) e) e) WordTooMany))
 
--- what is wrong with the line numbered l: with 1 expected as `n w`, else as `number first last`
+-- what is wrong with the line numbered l: with 1 expected as `n w` or `n w grid`, of two bytes each, else as `number first last`, of four, two and two
 unfoldable pub faultAt : List ℕ → ℕ → ℕ → Fault
-faultAt s l expected =
-    cond (eqb expected 1) (headerFault s (lineStart s l) (lineEnd s (lineStart s l))) (circuitFault s (lineStart s l) (lineEnd s (lineStart s l)))
+faultAt s l expected = lineFault s (lineStart s l) (lineEnd s (lineStart s l)) (cond (eqb expected 1) 65536 4294967296)

@@ -22,9 +22,9 @@ faultWords NoNumber = words "not a number"
 faultWords TooLarge = words "a number too large"
 faultWords WordTooMany = words "a word too many"
 
--- what a line should have been: `n w` for 1, else `number first last`
+-- what a line should have been: `n w` or `n w grid` for 1, else `number first last`
 unfoldable pub expectedWords : ℕ → List ℕ
-expectedWords expected = cond (eqb expected 1) (words " (expected: n w)\n") (words " (expected: number first last)\n")
+expectedWords expected = cond (eqb expected 1) (words " (expected: n w, or n w grid)\n") (words " (expected: number first last)\n")
 
 -- which line
 unfoldable pub lineWords : ℕ → List ℕ
@@ -49,7 +49,7 @@ countMessage many = words "circuits: " ++ decimal many ++ words "\n"
 
 -- what is said of a text, by the answer for it
 unfoldable pub messageBy : List ℕ → Entry → List ℕ
-messageBy s (Entered n w many) = countMessage many
+messageBy s (Entered h many) = countMessage many
 messageBy s (Wrong l expected) = wrongMessage s l expected
 
 -- what is said of a text, of at most the 2,048 circuits that the planner takes

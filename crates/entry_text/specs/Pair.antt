@@ -23,7 +23,7 @@ pub record Pair : Type 0 where
 
 -- the files of an entry, none of a text that is wrong
 unfoldable pub filesBy : Entry → List Circuit → Option Pair
-filesBy (Entered n w many) cs = some (record { line = lineBytes n w; circuits = fileOf cs })
+filesBy (Entered h many) cs = some (record { line = lineBytes (h .n) (h .w) (h .grid) (h .named); circuits = fileOf cs })
 filesBy (Wrong l expected) cs = none
 
 -- the files of a text, of at most the 2,048 circuits that the planner takes
@@ -32,6 +32,7 @@ filesOf s = filesBy (entryOf s 2048) ((read s 2048) .circuits)
 
 -- what was made of a text in three buffers: its files, or none, and what is said of it
 abbrev pub MadeOf : List ℕ → Made → List ℕ → List ℕ → List ℕ → Type 0
-MadeOf s (Both c k) line circuits message =
-    (filesOf s ≡ some (record { line = line; circuits = take c circuits })) × (take k message ≡ messageOf s) × (c ≤ length circuits) × (k ≤ length message)
+MadeOf s (Both l c k) line circuits message =
+    (filesOf s ≡ some (record { line = take l line; circuits = take c circuits })) × (take k message ≡ messageOf s)
+    × (l ≤ length line) × (c ≤ length circuits) × (k ≤ length message)
 MadeOf s (Neither k) line circuits message = (filesOf s ≡ none) × (take k message ≡ messageOf s) × (k ≤ length message)

@@ -6,7 +6,7 @@ ghost use mathlib.Core.Path.{_≡_};
 ghost use Prim.Native.Nat.{_≤_, _<_};
 ghost use lib.ListN.{length};
 ghost use Rattle.entry_text.specs.Entries.{isDigit};
-ghost use Rattle.entry_text.specs.Faults.{isSign, isMark, digitsTo, wordFault, faultFrom, headerFault, circuitFault, faultAt};
+ghost use Rattle.entry_text.specs.Faults.{isSign, isMark, digitsTo, wordFault, faultFrom, lineFault, faultAt};
 
 // No number where one is expected, a sign before it, a byte order mark, a word that is none, one too large, or a word too many.
 pub enum Fault {
@@ -100,27 +100,12 @@ fn fault_from(text: &[u8], i: usize, e: usize) -> Fault
     word_fault(text, a, b)
 }
 
-// What is wrong with the line from i to before e, as `n w`.
-fn header_fault(text: &[u8], i: usize, e: usize) -> Fault
-    requires { ⌜ (i ≤ e) × (e ≤ length (now text)) ⌝ }
-    ensures { λ r. ⌜ r ≡ headerFault (now (text .entry)) i e ⌝ }
+// What is wrong with the line from i to before e, which should have been numbers, of which the first is below `limit`.
+fn line_fault(text: &[u8], i: usize, e: usize, limit: u64) -> Fault
+    requires { ⌜ (i ≤ e) × (e ≤ length (now text)) × (1 ≤ limit) × (limit ≤ 4294967296) ⌝ }
+    ensures { λ r. ⌜ r ≡ lineFault (now (text .entry)) i e limit ⌝ }
 {
-    let Numeral::Value(_) = words::word_number(text, i, e, 65536) else {
-        return fault_from(text, i, e);
-    };
-    let p = words::word_past(text, i, e);
-    let Numeral::Value(_) = words::word_number(text, p, e, 65536) else {
-        return fault_from(text, p, e);
-    };
-    Fault::WordTooMany
-}
-
-// What is wrong with the line from i to before e, as `number first last`.
-fn circuit_fault(text: &[u8], i: usize, e: usize) -> Fault
-    requires { ⌜ (i ≤ e) × (e ≤ length (now text)) ⌝ }
-    ensures { λ r. ⌜ r ≡ circuitFault (now (text .entry)) i e ⌝ }
-{
-    let Numeral::Value(_) = words::word_number(text, i, e, 4294967296) else {
+    let Numeral::Value(_) = words::word_number(text, i, e, limit) else {
         return fault_from(text, i, e);
     };
     let p = words::word_past(text, i, e);
@@ -134,14 +119,14 @@ fn circuit_fault(text: &[u8], i: usize, e: usize) -> Fault
     Fault::WordTooMany
 }
 
-// What is wrong with the line of this number, counted from 1: with 1 expected as `n w`, else as `number first last`.
+// What is wrong with the line of this number, counted from 1: with 1 expected as `n w` or `n w grid`, else as `number first last`.
 pub fn fault_at(text: &[u8], line: usize, expected: u32) -> Fault
     ensures { λ r. ⌜ r ≡ faultAt (now (text .entry)) line expected ⌝ }
 {
     let i = numbering::line_start(text, line);
     let e = words::line_end(text, i);
     if expected == 1 {
-        return header_fault(text, i, e);
+        return line_fault(text, i, e, 65536);
     }
-    circuit_fault(text, i, e)
+    line_fault(text, i, e, 4294967296)
 }

@@ -3,7 +3,7 @@ use crate::lines::CircuitLine;
 use crate::lines::Opening;
 ghost use mathlib.Core.Path.{_≡_};
 ghost use Prim.Native.Nat.{_+_, _/_, _≤_};
-ghost use lib.ListN.{length};
+ghost use lib.ListN.{length, take};
 ghost use Rattle.entry_text.specs.Entered.{Enters};
 ghost use Rattle.entry_text.specs.Pair.{MadeOf};
 ghost use Rattle.records.specs.LineFiles.{lineBytes};
@@ -15,15 +15,27 @@ pub mod messages;
 pub mod numbering;
 mod words;
 
-// The line's n and w and how many circuits, or the first line that is wrong, counted from 1, and what was expected there.
+// What the first line that counts says: the grid is 1 where it does not name it.
+pub struct Header {
+    pub n: u16,
+    pub w: u16,
+    pub grid: u16,
+    pub named: bool,
+}
+
+// The header and how many circuits, or the first line that is wrong, counted from 1, and what was expected there.
 pub enum Entry {
-    Entered { n: u16, w: u16, circuits: usize },
+    Entered { header: Header, circuits: usize },
     Wrong { line: usize, expected: u32 },
 }
 
-// How many bytes circuits.rec and the message have, or how many the message has where there are no files.
+// How many bytes line.rec, circuits.rec and the message have, or how many the message has where there are no files.
 pub enum Made {
-    Both { circuits: usize, message: usize },
+    Both {
+        line: usize,
+        circuits: usize,
+        message: usize,
+    },
     Neither(usize),
 }
 
@@ -63,7 +75,7 @@ fn read_circuits(text: &[u8], out: &mut [u8], start: usize, first: usize) -> End
     Ending::Whole(count)
 }
 
-// Reads `n w` and the circuits of a text into circuit records at the start of `out`.
+// Reads the header and the circuits of a text into circuit records at the start of `out`.
 pub fn enter(text: &[u8], out: &mut [u8]) -> Entry
     ensures { λ r. ⌜ Enters (now (text .entry)) (length (now (out .entry)) / 8) (now (out .entry)) r (now (out .exit)) ⌝ }
 {
@@ -76,36 +88,42 @@ pub fn enter(text: &[u8], out: &mut [u8]) -> Entry
     let found = lines::find_header(text);
     match found {
         Opening::Missing(line) => Entry::Wrong { line, expected: 1 },
-        Opening::Header { n, w, next, line } => {
+        Opening::Headed { header, next, line } => {
             let rest = read_circuits(text, out, next, line);
             match rest {
-                Ending::Whole(circuits) => Entry::Entered { n, w, circuits },
+                Ending::Whole(circuits) => Entry::Entered { header, circuits },
                 Ending::Stopped { line, expected } => Entry::Wrong { line, expected },
             }
         }
     }
 }
 
-// The four bytes of line.rec.
-fn write_line(n: u16, w: u16, line: &mut [u8])
-    requires { ⌜ length (now line) ≡ 4 ⌝ }
-    ensures { λ _. ⌜ now (line .exit) ≡ lineBytes n w ⌝ }
+// The bytes of line.rec. What is told: how many, 6 if the grid is named, else 4.
+fn write_line(header: Header, line: &mut [u8]) -> usize
+    requires { ⌜ length (now line) ≡ 6 ⌝ }
+    ensures { λ r. ⌜ (take r (now (line .exit)) ≡ lineBytes (header .n) (header .w) (header .grid) (header .named)) × (r ≤ 6) ⌝ }
 {
-    records::cells::put(line, 0, n);
-    records::cells::put(line, 1, w);
+    records::cells::put(line, 0, header.n);
+    records::cells::put(line, 1, header.w);
+    records::cells::put(line, 2, header.grid);
+    if header.named {
+        return 6;
+    }
+    4
 }
 
 // Makes the bytes of line.rec and circuits.rec of a text, and what is said of it.
 pub fn make_files(text: &[u8], line: &mut [u8], circuits: &mut [u8], message: &mut [u8]) -> Made
-    requires { ⌜ (length (now line) ≡ 4) × (length (now circuits) ≡ 16384) × (76 ≤ length (now message)) ⌝ }
+    requires { ⌜ (length (now line) ≡ 6) × (length (now circuits) ≡ 16384) × (76 ≤ length (now message)) ⌝ }
     ensures { λ r. ⌜ MadeOf (now (text .entry)) r (now (line .exit)) (now (circuits .exit)) (now (message .exit)) ⌝ }
 {
     let answer = enter(text, circuits);
     let k = messages::write_message(text, answer, message);
     match answer {
-        Entry::Entered { n, w, circuits } => {
-            write_line(n, w, line);
+        Entry::Entered { header, circuits } => {
+            let l = write_line(header, line);
             Made::Both {
+                line: l,
                 circuits: 8 * circuits,
                 message: k,
             }

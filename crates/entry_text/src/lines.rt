@@ -1,16 +1,18 @@
 // Lines of a text of circuits.
+use crate::Header;
 use crate::words;
 use crate::words::Numeral;
 ghost use mathlib.Core.Path.{_≡_};
-ghost use Prim.Native.Nat.{suc, _≤_};
+ghost use Prim.Native.Nat.{suc, _≤_, _<_};
 ghost use lib.ListN.{length};
 ghost use Rattle.entry_text.specs.Entries.{idleLine, headerIn, circuitIn, foundBy, headerFrom};
-ghost use Rattle.entry_text.specs.inner.Told.{sizesOf, circuitLineOf, opening};
+ghost use Rattle.entry_text.specs.declared.lines.Heading.the-variants.{Given};
+ghost use Rattle.entry_text.specs.inner.Told.{headingOf, circuitLineOf, opening};
 
-// What a line says that should be `n w`.
-pub enum Sizes {
-    Both { n: u16, w: u16 },
-    Neither,
+// What a line says that should be the header.
+pub enum Heading {
+    Given(Header),
+    Lacking,
 }
 
 // What a line says that should be a circuit.
@@ -21,9 +23,8 @@ pub enum CircuitLine {
 
 // The header with where the next line starts and its number, or the line that should have been the header.
 pub enum Opening {
-    Header {
-        n: u16,
-        w: u16,
+    Headed {
+        header: Header,
         next: usize,
         line: usize,
     },
@@ -42,26 +43,43 @@ pub fn idle_line(text: &[u8], i: usize, e: usize) -> bool
     text[a] == 35
 }
 
-// The two numbers of the line from i to before e.
-fn header_in(text: &[u8], i: usize, e: usize) -> Sizes
+// A header of numbers of two bytes.
+fn given(n: u64, w: u64, grid: u64, named: bool) -> Heading
+    requires { ⌜ (n < 65536) × (w < 65536) × (grid < 65536) ⌝ }
+    ensures { λ r. ⌜ r ≡ Given (record { n = n; w = w; grid = grid; named = named }) ⌝ }
+{
+    Heading::Given(Header {
+        n: n as u16,
+        w: w as u16,
+        grid: grid as u16,
+        named,
+    })
+}
+
+// The header that the line from i to before e says: n and w, or n, w and the grid.
+fn header_in(text: &[u8], i: usize, e: usize) -> Heading
     requires { ⌜ (i ≤ e) × (e ≤ length (now text)) ⌝ }
-    ensures { λ r. ⌜ r ≡ sizesOf (headerIn (now (text .entry)) i e) ⌝ }
+    ensures { λ r. ⌜ r ≡ headingOf (headerIn (now (text .entry)) i e) ⌝ }
 {
     let Numeral::Value(n) = words::word_number(text, i, e, 65536) else {
-        return Sizes::Neither;
+        return Heading::Lacking;
     };
     let p = words::word_past(text, i, e);
     let Numeral::Value(w) = words::word_number(text, p, e, 65536) else {
-        return Sizes::Neither;
+        return Heading::Lacking;
     };
     let q = words::word_past(text, p, e);
-    if words::word_from(text, q, e) < e {
-        return Sizes::Neither;
+    if e <= words::word_from(text, q, e) {
+        return given(n, w, 1, false);
     }
-    Sizes::Both {
-        n: n as u16,
-        w: w as u16,
+    let Numeral::Value(grid) = words::word_number(text, q, e, 65536) else {
+        return Heading::Lacking;
+    };
+    let o = words::word_past(text, q, e);
+    if words::word_from(text, o, e) < e {
+        return Heading::Lacking;
     }
+    given(n, w, grid, true)
 }
 
 // The circuit of the line from i to before e.
@@ -96,12 +114,11 @@ fn opened(text: &[u8], i: usize, e: usize, line: usize) -> Opening
     requires { ⌜ (i ≤ e) × (e ≤ length (now text)) × (length (now text) ≤ 1048576) × (line ≤ 1048577) ⌝ }
     ensures { λ r. ⌜ r ≡ opening (foundBy (suc e) line (headerIn (now (text .entry)) i e)) ⌝ }
 {
-    let Sizes::Both { n, w } = header_in(text, i, e) else {
+    let Heading::Given(header) = header_in(text, i, e) else {
         return Opening::Missing(line);
     };
-    Opening::Header {
-        n,
-        w,
+    Opening::Headed {
+        header,
         next: e + 1,
         line: line + 1,
     }

@@ -28,7 +28,7 @@ fn write_expected(expected: u32, out: &mut [u8]) -> usize
     ensures { λ r. ⌜ Wrote (expectedWords expected) r (now (out .entry)) (now (out .exit)) ⌝ }
 {
     if expected == 1 {
-        return text::write_words(b" (expected: n w)\n", out);
+        return text::write_words(b" (expected: n w, or n w grid)\n", out);
     }
     text::write_words(b" (expected: number first last)\n", out)
 }
@@ -89,7 +89,7 @@ pub fn write_message(text: &[u8], answer: Entry, out: &mut [u8]) -> usize
     ensures { λ r. ⌜ Wrote (messageBy (now (text .entry)) answer) r (now (out .entry)) (now (out .exit)) ⌝ }
 {
     match answer {
-        Entry::Entered { n, w, circuits } => write_count(circuits, out),
+        Entry::Entered { header, circuits } => write_count(circuits, out),
         Entry::Wrong { line, expected } => write_wrong(text, line, expected, out),
     }
 }

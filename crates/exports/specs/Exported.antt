@@ -25,9 +25,9 @@ toldBy (suc k) place counts = Refused (suc k) place
 abbrev pub told : PlanAnswer → Answer
 told r = toldBy (r .refusal) (r .place) (record { fibres = r .fibres; total = r .total; floor = r .floor })
 
--- the line that a caller names by two numbers
-abbrev pub lineOf : ℕ → ℕ → Line
-lineOf links wavelengths = record { links = links; wavelengths = wavelengths }
+-- the line that a caller names by three numbers
+abbrev pub lineOf : ℕ → ℕ → ℕ → Line
+lineOf links wavelengths grid = record { links = links; wavelengths = wavelengths; grid = grid }
 
 -- the answer that is told and every byte of the three lent areas are an outcome of `plan`, and the struct tells nothing else
 pub record Exported (line : Line) (s : List ℕ) (before after : Areas) (r : PlanAnswer) : Type 0 where

@@ -37,19 +37,24 @@ fn flattened(a: Answer) -> PlanAnswer
     }
 }
 
-// Plans the circuits of a file on a line of so many links with so many wavelengths.
+// Plans the circuits of a file on a line of so many links with so many wavelengths of a grid.
 #[no_mangle]
 pub extern "C" fn fibre_plan(
     links: usize,
     wavelengths: usize,
+    grid: usize,
     circuits: &[u8],
     fibres: &mut [u8],
     assignments: &mut [u8],
     work: &mut [u8],
 ) -> PlanAnswer
-    ensures { λ r. ⌜ Exported (lineOf links wavelengths) (now (circuits .entry)) (areas (now (fibres .entry)) (now (assignments .entry)) (now (work .entry))) (areas (now (fibres .exit)) (now (assignments .exit)) (now (work .exit))) r ⌝ }
+    ensures { λ r. ⌜ Exported (lineOf links wavelengths grid) (now (circuits .entry)) (areas (now (fibres .entry)) (now (assignments .entry)) (now (work .entry))) (areas (now (fibres .exit)) (now (assignments .exit)) (now (work .exit))) r ⌝ }
 {
-    let line = Line { links, wavelengths };
+    let line = Line {
+        links,
+        wavelengths,
+        grid,
+    };
     let a = planner::plan(line, circuits, fibres, assignments, work);
     flattened(a)
 }

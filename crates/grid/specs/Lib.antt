@@ -1,1 +1,2 @@
 pub mod Frequencies
+pub mod Bench

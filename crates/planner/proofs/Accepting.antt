@@ -7,6 +7,8 @@ use native.Mathlib.Omega.{arith}
 use Rattle.records.specs.Records.{circuitsOf}
 use Rattle.records.specs.declared.Line.{Line}
 use Rattle.records.proofs.Files.{circuitsIn-at, length-circuitsIn}
+use Rattle.grid.specs.Frequencies.{limitOf}
+use Rattle.grid.proofs.FrequencyLaws.{limit-small}
 use Rattle.method.specs.Line.{Distinct, Lies, circuit, nobody}
 use Rattle.method.specs.LitDemands.{LitDemand}
 use Rattle.method.proofs.LitDemands.{lit-demand}
@@ -55,7 +57,8 @@ module _ (line : Line) (s : List ℕ) (passed : NoneApplies (circuitRows line s)
   pub accepted : Accepted (line .links) (line .wavelengths) (length s / 8) s
   unfolding fileRows lineRows
   accepted =
-      let v = passed4 40 (line .wavelengths) (none-first _ _ (none-rest _ _ of-line)) in
+      let g = limit-small (line .grid) in
+      let v = passed4 (limitOf (line .grid)) (line .wavelengths) (none-first _ _ (none-rest _ _ (none-rest _ _ of-line))) in
       record {
         file = record {
           line = passed3 512 (line .links) (none-first _ _ of-line) .1;
@@ -64,7 +67,7 @@ module _ (line : Line) (s : List ℕ) (passed : NoneApplies (circuitRows line s)
           lies = lies;
           distinct = distinct;
         };
-        waves = (v .0, omega arith);
+        waves = (v .0, omega (arith, v .1));
       }
 
   -- all that is promised of its plan

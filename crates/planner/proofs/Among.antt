@@ -80,12 +80,12 @@ module _ (line : Line) (s s' : List ℕ) (among : Among s s') (passed : NoneAppl
       (none-more _ _ (none-either 6 (badEnds (line .links)) (none-first _ _ (none-rest _ _ p)))
       (none-more _ _ (ap (wherever 7) no-repeat) none-end))
 
-  -- so tests 1 to 7
+  -- so tests 1 to 7 and 12
   pub circuits-pass : NoneApplies (circuitRows line s')
   unfolding circuitRows
   circuits-pass = none-both (fileRows s') _ file-passes (none-both (lineRows line) _ (of-line line s passed) (none-both _ _ records-pass none-end))
 
--- tests 1 to 7, and those of the lent areas, are all tests
+-- tests 1 to 7 and 12, and those of the lent areas, are all tests
 pub table-passes : (line : Line) (s : List ℕ) (fibres assigns work : ℕ) → NoneApplies (circuitRows line s) → NoneApplies (areaRows (line .links) (length s / 8) fibres assigns work)
     → NoneApplies (planTable line s fibres assigns work)
 unfolding planTable

@@ -32,6 +32,10 @@ use Rattle.planner.specs.declared.Answer.the-variants.{Planned}
 use Rattle.planner.proofs.Accepting.{accepted, of-circuits, promised}
 use Rattle.planner.proofs.Among.{Among, among-passes}
 
+-- the plan and its numbers are the same on every grid
+pub grid-idle : (n w a b : ℕ) (s : List ℕ) → let one : Line = record { links = n; wavelengths = w; grid = a } in let two : Line = record { links = n; wavelengths = w; grid = b } in (planOf one s ≡ planOf two s) × (numbersOf one s ≡ numbersOf two s)
+grid-idle n w a b s = (refl, refl)
+
 module _ (line : Line) (s : List ℕ) (before after : Areas) (answer : Answer) (o : Outcome line s before after answer) where
   -- a refusal is the verdict's, and changes nothing
   refused-so : (r : Refusal) → refusalOf answer ≡ some r → (judged line s before ≡ refusedWith r) × (after ≡ before)

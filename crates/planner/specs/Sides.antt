@@ -52,7 +52,7 @@ pub record SameInRecords (lent : Areas) (i : ℕ) (lent' : Areas) (j : ℕ) : Ty
 
 -- what the call with the side's file gives
 pub record SideSheet (line : Line) (s s' : List ℕ) (before after before' after' : Areas) (answer' : Answer) : Type 0 where
-  -- none of tests 1 to 7 applies to the side's file
+  -- none of tests 1 to 7 and 12 applies to the side's file
   pub circuits-pass : NoneApplies (circuitRows line s')
   -- so it is planned exactly if none of 8 to 10 applies to its own lent areas
   pub planned : NoneApplies (areaTableFor line s' before') → (counts' : Counts) × (answer' ≡ Planned counts')

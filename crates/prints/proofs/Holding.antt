@@ -33,8 +33,8 @@ use Rattle.prints.specs.Sheets.{planText, sheetOf, textBy}
 use Rattle.prints.specs.inner.Lent.{answerText, Held, Ample}
 
 -- what was written of an answer that is told by its case
-pub of-case : (a b : Answer) (m r : ℕ) (fibres assigns out₀ out₁ : List ℕ) → a ≡ b → Wrote (answerText b m fibres assigns) r out₀ out₁ → Wrote (answerText a m fibres assigns) r out₀ out₁
-of-case a b m r fibres assigns out₀ out₁ e h = subst (λ (t : Answer). Wrote (answerText t m fibres assigns) r out₀ out₁) (sym e) h
+pub of-case : (grid : ℕ) (a b : Answer) (m r : ℕ) (fibres assigns out₀ out₁ : List ℕ) → a ≡ b → Wrote (answerText grid b m fibres assigns) r out₀ out₁ → Wrote (answerText grid a m fibres assigns) r out₀ out₁
+of-case grid a b m r fibres assigns out₀ out₁ e h = subst (λ (t : Answer). Wrote (answerText grid t m fibres assigns) r out₀ out₁) (sym e) h
 
 -- the lines of fibre records do not depend on what stands behind the records
 fibre-lines : (k : ℕ) (fs : List Fibre) (rest : List ℕ) → k ≤ length fs → fibreLines k (fibreRecords 0 fs ++ rest) ≡ fibreLines k (fibreRecords 0 fs)
@@ -46,14 +46,14 @@ fibre-lines (suc k) fs rest h =
     λ i. fibre-lines k fs rest (omega arith) i ++ fibreLine (fibreOf (same i))
 
 -- nor do those of assignment records
-circuit-lines : (m : ℕ) (cs : List Circuit) (gs : List Assignment) (rest : List ℕ) → length gs ≡ length cs → m ≤ length cs
-    → circuitLines m (assignmentRecords 0 cs gs ++ rest) ≡ circuitLines m (assignmentRecords 0 cs gs)
+circuit-lines : (grid m : ℕ) (cs : List Circuit) (gs : List Assignment) (rest : List ℕ) → length gs ≡ length cs → m ≤ length cs
+    → circuitLines grid m (assignmentRecords 0 cs gs ++ rest) ≡ circuitLines grid m (assignmentRecords 0 cs gs)
 unfolding circuitLines
-circuit-lines zero cs gs rest e h = refl
-circuit-lines (suc m) cs gs rest e h =
+circuit-lines grid zero cs gs rest e h = refl
+circuit-lines grid (suc m) cs gs rest e h =
     let same : recordAt (assignmentRecords 0 cs gs ++ rest) m ≡ recordAt (assignmentRecords 0 cs gs) m =
     assignment-record 0 cs gs rest m e (omega arith) ∙ sym (ap (λ (t : List ℕ). recordAt t m) (sym (append-nil (assignmentRecords 0 cs gs))) ∙ assignment-record 0 cs gs [] m e (omega arith)) in
-    λ i. circuit-lines m cs gs rest e (omega arith) i ++ circuitLine (assignmentOf (same i))
+    λ i. circuit-lines grid m cs gs rest e (omega arith) i ++ circuitLine grid (assignmentOf (same i))
 
 module _ (line : Line) (s : List ℕ) (before : Areas) (ample : Ample (before .fibres) (before .assigns) (before .work)) where
   -- the method's plan, and how many circuits
@@ -93,11 +93,11 @@ module _ (line : Line) (s : List ℕ) (before : Areas) (ample : Ample (before .f
     unfolding litFibres
     few-fibres = omega (arith, due .few-fibres, many)
 
-  -- what is said of the answer and the two lists that `plan` left, if the verdict of tests 1 to 7 was t: the lists hold what is counted, and the text of it is that of the sheet
+  -- what is said of the answer and the two lists that `plan` left, if the verdict of tests 1 to 7 and 12 was t: the lists hold what is counted, and the text of it is that of the sheet
   abbrev Said : Verdict → Answer → List ℕ → List ℕ → Type 0
   Said t answer fibres assigns =
       Held answer (length s / 8) fibres assigns
-      × (answerText answer (length s / 8) fibres assigns ≡ textBy t (planText (circuitsOf s) (planOf line s) (floor (line .links) (line .wavelengths) (circuitsOf s))))
+      × (answerText (line .grid) answer (length s / 8) fibres assigns ≡ textBy t (planText (line .grid) (circuitsOf s) (planOf line s) (floor (line .links) (line .wavelengths) (circuitsOf s))))
 
   module _ (after : Areas) (answer : Answer) (long-fibres : length (after .fibres) ≡ length (before .fibres)) (long-assigns : length (after .assigns) ≡ length (before .assigns))
       (o : Outcome line s before after answer) where
@@ -118,14 +118,14 @@ module _ (line : Line) (s : List ℕ) (before : Areas) (ample : Ample (before .f
         let assigned : after .assigns ≡ assignmentRecords 0 (circuitsOf s) (p .assignments) ++ drop (8 * length (circuitsOf s)) (before .assigns) =
         o .assigned ∙ ap (λ (t : Verdict). ifAccepted t (assignmentList 0 (circuitsOf s) (p .assignments) (before .assigns)) (before .assigns)) j in
         let fibre-part = ap (fibreLines (length (p .fibres))) listed ∙ fibre-lines (length (p .fibres)) (p .fibres) _ (omega arith) in
-        let circuit-part : circuitLines (length s / 8) (after .assigns) ≡ circuitLines (length (circuitsOf s)) (assignmentRecords 0 (circuitsOf s) (p .assignments)) =
-        ap (circuitLines (length s / 8)) assigned ∙ circuit-lines (length s / 8) (circuitsOf s) (p .assignments) _ given (omega (arith, many))
-        ∙ ap (λ (k : ℕ). circuitLines k (assignmentRecords 0 (circuitsOf s) (p .assignments))) (sym many) in (
+        let circuit-part : circuitLines (line .grid) (length s / 8) (after .assigns) ≡ circuitLines (line .grid) (length (circuitsOf s)) (assignmentRecords 0 (circuitsOf s) (p .assignments)) =
+        ap (circuitLines (line .grid) (length s / 8)) assigned ∙ circuit-lines (line .grid) (length s / 8) (circuitsOf s) (p .assignments) _ given (omega (arith, many))
+        ∙ ap (λ (k : ℕ). circuitLines (line .grid) k (assignmentRecords 0 (circuitsOf s) (p .assignments))) (sym many) in (
           (omega arith, few, omega arith, omega arith),
           λ i. fibre-part i ++ circuit-part i ++ totalLine (length (p .fibres)) (total (p .fibres)) (floor (line .links) (line .wavelengths) (circuitsOf s)),
         )
 
-    -- by the verdict of tests 1 to 7
+    -- by the verdict of tests 1 to 7 and 12
     said : (t : Verdict) → verdict (circuitRows line s) (length s / 8) ≡ t → Said t answer (after .fibres) (after .assigns)
     unfolding judged planTable
     said (Checked m) q =
@@ -142,6 +142,6 @@ module _ (line : Line) (s : List ℕ) (before : Areas) (ample : Ample (before .f
     held = said (verdict (circuitRows line s) (length s / 8)) refl .0
 
     -- the text made of them is that of the sheet
-    pub sheet-made : answerText answer (length s / 8) (after .fibres) (after .assigns) ≡ sheetOf line s
+    pub sheet-made : answerText (line .grid) answer (length s / 8) (after .fibres) (after .assigns) ≡ sheetOf line s
     unfolding sheetOf
     sheet-made = said (verdict (circuitRows line s) (length s / 8)) refl .1

@@ -52,16 +52,16 @@ module _ (a b : Moved) (line circuits : List ℕ) where
       ∙ ap (λ (x : LineFile). printedBy x (take j circuits)) u
       ∙ ap (sheetOf l) (take-all 16392 (take j circuits) (omega (arith, length-take-le j circuits h)) ∙ sym (lent j circuits)))
 
--- a fifth byte tells all that the length of `line.rec` can
-line-cut : (l : List ℕ) → lineIn (take 5 l) ≡ lineIn l
+-- a seventh byte tells all that the length of `line.rec` can
+line-cut : (l : List ℕ) → lineIn (take 7 l) ≡ lineIn l
 unfolding lineIn
 line-cut l =
-    by-le (length l) 5
-    (λ h. ap lineIn (take-all 5 l h))
-    (λ h. let e : length (take 5 l) ≡ 5 = length-take-le 5 l (omega arith) in rw (e, ne-eqb (length l) 4 (λ z. omega arith)))
+    by-le (length l) 7
+    (λ h. ap lineIn (take-all 7 l h))
+    (λ h. let e : length (take 7 l) ≡ 7 = length-take-le 7 l (omega arith) in rw (e, ne-eqb (length l) 4 (λ z. omega arith), ne-eqb (length l) 6 (λ z. omega arith)))
 
--- the program reads no more than 5 bytes of `line.rec` and 16,392 of `circuits.rec`, and prints what the whole files call for
-pub first-bytes : (l s : List ℕ) → printed (some (take 5 l)) (some (take 16392 s)) ≡ printed (some l) (some s)
+-- the program reads no more than 7 bytes of `line.rec` and 16,392 of `circuits.rec`, and prints what the whole files call for
+pub first-bytes : (l s : List ℕ) → printed (some (take 7 l)) (some (take 16392 s)) ≡ printed (some l) (some s)
 unfolding printed
 first-bytes l s = ap (λ (t : LineFile). printedBy t (take 16392 s)) (line-cut l) ∙ again (lineIn l)
   where

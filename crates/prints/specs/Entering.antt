@@ -12,7 +12,7 @@ use Rattle.prints.specs.Typed.{noInput}
 
 -- no file is made, and just this is said
 abbrev pub SaysOnly : List ℕ → Made → List ℕ → Type 0
-SaysOnly text (Both c k) message = ⊥
+SaysOnly text (Both l c k) message = ⊥
 SaysOnly text (Neither k) message = (take k message ≡ text) × (k ≤ length message)
 
 -- what was made in three buffers, from what was read: none where standard input cannot be read, else the text

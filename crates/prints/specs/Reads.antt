@@ -14,10 +14,10 @@ abbrev pub fileRead : Moved → List ℕ → Option (List ℕ)
 fileRead (Bytes k) buffer = some (take k buffer)
 fileRead Failed buffer = none
 
--- what the sheet program read: a fifth byte of `line.rec` would tell that it is too long, and 16,392 bytes of `circuits.rec` are all that count
+-- what the sheet program read: a seventh byte of `line.rec` would tell that it is too long, and 16,392 bytes of `circuits.rec` are all that count
 pub record SheetRead (line circuits : Moved) (lineBuffer circuitBuffer : List ℕ) : Type 0 where
   pub line-read : Read line lineBuffer
-  pub line-long : length lineBuffer ≡ 5
+  pub line-long : length lineBuffer ≡ 7
   pub circuits-read : Read circuits circuitBuffer
   pub circuits-long : length circuitBuffer ≡ 16392
 

@@ -19,17 +19,17 @@ use Rattle.register.specs.Lists.{fibreRecords, assignmentRecords}
 use Rattle.planner.specs.Outcome.{planOf}
 use Rattle.sheet_text.specs.Text.{sheetText, refusalLine}
 
--- the lines of plan p of circuits cs, with the floor
-unfoldable pub planText : List Circuit → Plan → ℕ → List ℕ
-planText cs p floor = sheetText (length (p .fibres)) (length cs) (fibreRecords 0 (p .fibres)) (assignmentRecords 0 cs (p .assignments)) (total (p .fibres)) floor
+-- the lines of plan p of circuits cs on a grid, with the floor
+unfoldable pub planText : ℕ → List Circuit → Plan → ℕ → List ℕ
+planText grid cs p floor = sheetText grid (length (p .fibres)) (length cs) (fibreRecords 0 (p .fibres)) (assignmentRecords 0 cs (p .assignments)) (total (p .fibres)) floor
 
 -- a refusal is one line, and nothing else is printed then
 abbrev pub textBy : Verdict → List ℕ → List ℕ
 textBy v sheet = ifRefused (refusalIn v) refusalLine sheet
 
--- the text for circuit bytes s on a line: tests 1 to 7, and then the plan; 8, 9 and 10 never come, since the program lends enough
+-- the text for circuit bytes s on a line: tests 1 to 7 and 12, and then the plan; 8, 9 and 10 never come, since the program lends enough
 unfoldable pub sheetOf : Line → List ℕ → List ℕ
-sheetOf line s = textBy (verdict (circuitRows line s) (length s / 8)) (planText (circuitsOf s) (planOf line s) (floor (line .links) (line .wavelengths) (circuitsOf s)))
+sheetOf line s = textBy (verdict (circuitRows line s) (length s / 8)) (planText (line .grid) (circuitsOf s) (planOf line s) (floor (line .links) (line .wavelengths) (circuitsOf s)))
 
 -- refusal 11, which only the program gives
 abbrev pub unread : List ℕ

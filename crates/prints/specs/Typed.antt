@@ -11,6 +11,8 @@ use Rattle.records.specs.declared.Line.{Line}
 use Rattle.refusals.specs.Refusals.{refusalIn, ifRefused}
 use Rattle.refusals.specs.Table.{verdict, circuitRows}
 use Rattle.refusals.specs.declared.Verdict.{Verdict}
+use Rattle.grid.specs.Frequencies.{limitOf}
+use Rattle.text.specs.Decimals.{decimal}
 use Rattle.text.specs.Words.{words}
 use Rattle.entry_text.specs.Entered.{entryOf}
 use Rattle.entry_text.specs.Entries.{read}
@@ -20,27 +22,28 @@ use Rattle.entry_text.specs.declared.Entry.{Entry}
 use Rattle.entry_text.specs.declared.Entry.the-variants.{Entered, Wrong}
 use Rattle.prints.specs.Sheets.{sheetOf}
 
--- a refusal in words, by its number; another number has none
-unfoldable pub refusalWords : ℕ → List ℕ
-refusalWords number =
+-- a refusal on a grid in words, by its number; another number has none
+unfoldable pub refusalWords : ℕ → ℕ → List ℕ
+refusalWords grid number =
     cond (eqb number 3) (words "not 1 to 512 links\n")
-    (cond (eqb number 4) (words "not 1 to 40 wavelengths\n")
+    (cond (eqb number 4) (words "not 1 to " ++ decimal (limitOf grid) ++ words " wavelengths\n")
     (cond (eqb number 5) (words "circuit number 0\n")
     (cond (eqb number 6) (words "an end that is not on the line\n")
-    (cond (eqb number 7) (words "a circuit number that stands twice\n") (words "\n")))))
+    (cond (eqb number 7) (words "a circuit number that stands twice\n")
+    (cond (eqb number 12) (words "a grid that is neither 1 nor 2\n") (words "\n"))))))
 
 -- after the line of a refusal: the line of the text where it stands, which is the header's for place 0, and the refusal in words
-abbrev pub explained : List ℕ → Verdict → List ℕ
-explained text v = ifRefused (refusalIn v) (λ r. lineWords (lineOfRecord text (r .place)) ++ refusalWords (r .number)) []
+abbrev pub explained : List ℕ → Line → Verdict → List ℕ
+explained text line v = ifRefused (refusalIn v) (λ r. lineWords (lineOfRecord text (r .place)) ++ refusalWords (line .grid) (r .number)) []
 
 -- the sheet of circuit bytes s on a line, or its refusal with the line of the text
 unfoldable pub typedSheet : List ℕ → Line → List ℕ → List ℕ
-typedSheet text line s = sheetOf line s ++ explained text (verdict (circuitRows line s) (length s / 8))
+typedSheet text line s = sheetOf line s ++ explained text line (verdict (circuitRows line s) (length s / 8))
 
 -- by what was entered: what is wrong with the text, or the sheet of its circuits
 abbrev pub typedBy : List ℕ → Entry → List ℕ
 typedBy text (Wrong l expected) = messageBy text (Wrong l expected)
-typedBy text (Entered n w many) = typedSheet text (record { links = n; wavelengths = w }) (fileOf ((read text 2048) .circuits))
+typedBy text (Entered h many) = typedSheet text (record { links = h .n; wavelengths = h .w; grid = h .grid }) (fileOf ((read text 2048) .circuits))
 
 -- what is printed for a text of at most the 2,048 circuits that the planner takes
 unfoldable pub typedText : List ℕ → List ℕ

@@ -15,7 +15,7 @@ pub fn make_files(
     circuits: &mut [u8],
     message: &mut [u8],
 ) -> Made
-    requires { ⌜ TextRead got (now buffer) × ((length (now line) ≡ 4) × (length (now circuits) ≡ 16384) × (76 ≤ length (now message))) ⌝ }
+    requires { ⌜ TextRead got (now buffer) × ((length (now line) ≡ 6) × (length (now circuits) ≡ 16384) × (76 ≤ length (now message))) ⌝ }
     ensures { λ r. ⌜ MadeRead (fileRead got (now (buffer .entry))) r (now (line .exit)) (now (circuits .exit)) (now (message .exit)) ⌝ }
 {
     let Moved::Bytes(k) = got else {

@@ -13,13 +13,21 @@ ghost use Rattle.prints.specs.inner.Lent.{answerText, Held, Ample};
 pub mod entering;
 pub mod typed;
 
-// The text of an answer, with m circuits and the two lists as the planner left them, at the start of a buffer. What is told: its length.
-fn write_answer(a: Answer, m: usize, fibres: &[u8], assigns: &[u8], out: &mut [u8]) -> usize
+// The text of an answer on a grid, with m circuits and the two lists as the planner left them, at the start of a buffer. What is told: its length.
+fn write_answer(
+    grid: usize,
+    a: Answer,
+    m: usize,
+    fibres: &[u8],
+    assigns: &[u8],
+    out: &mut [u8],
+) -> usize
     requires { ⌜ Held a m (now fibres) (now assigns) × (147536 ≤ length (now out)) ⌝ }
-    ensures { λ r. ⌜ Wrote (answerText a m (now (fibres .entry)) (now (assigns .entry))) r (now (out .entry)) (now (out .exit)) ⌝ }
+    ensures { λ r. ⌜ Wrote (answerText grid a m (now (fibres .entry)) (now (assigns .entry))) r (now (out .entry)) (now (out .exit)) ⌝ }
 {
     match a {
         Answer::Planned(c) => sheet_text::write_sheet(
+            grid,
             c.fibres,
             m,
             fibres,
@@ -45,7 +53,7 @@ fn write_plan(
     ensures { λ r. ⌜ Wrote (sheetOf line (now (circuits .entry))) r (now (out .entry)) (now (out .exit)) ⌝ }
 {
     let a = planner::plan(line, circuits, fibres, assigns, work);
-    write_answer(a, circuits.len() / 8, fibres, assigns, out)
+    write_answer(line.grid, a, circuits.len() / 8, fibres, assigns, out)
 }
 
 // The text of the sheet of circuit bytes on a line, at the start of a buffer. What is told: its length.

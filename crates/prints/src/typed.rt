@@ -11,16 +11,16 @@ ghost use Rattle.text.specs.Wrote.{Wrote};
 ghost use Rattle.prints.specs.Typed.{refusalWords, explained, typedSheet, typedText, typed};
 ghost use Rattle.prints.specs.Reads.{fileRead, TextRead};
 
-// A refusal in words. What is told: how many bytes.
-fn write_refusal_words(number: u32, out: &mut [u8]) -> usize
+// A refusal on a grid in words. What is told: how many bytes.
+fn write_refusal_words(grid: usize, number: u32, out: &mut [u8]) -> usize
     requires { ⌜ 64 ≤ length (now out) ⌝ }
-    ensures { λ r. ⌜ Wrote (refusalWords number) r (now (out .entry)) (now (out .exit)) ⌝ }
+    ensures { λ r. ⌜ Wrote (refusalWords grid number) r (now (out .entry)) (now (out .exit)) ⌝ }
 {
     if number == 3 {
         return text::write_words(b"not 1 to 512 links\n", out);
     }
     if number == 4 {
-        return text::write_words(b"not 1 to 40 wavelengths\n", out);
+        return text::write_between(b"not 1 to ", grid::limit(grid), b" wavelengths\n", out);
     }
     if number == 5 {
         return text::write_words(b"circuit number 0\n", out);
@@ -31,20 +31,23 @@ fn write_refusal_words(number: u32, out: &mut [u8]) -> usize
     if number == 7 {
         return text::write_words(b"a circuit number that stands twice\n", out);
     }
+    if number == 12 {
+        return text::write_words(b"a grid that is neither 1 nor 2\n", out);
+    }
     text::write_words(b"\n", out)
 }
 
 // After the line of a refusal: the line of the text where it stands, and the refusal in words. What is told: how many bytes.
-fn write_explained(text: &[u8], v: Verdict, out: &mut [u8]) -> usize
+fn write_explained(text: &[u8], line: Line, v: Verdict, out: &mut [u8]) -> usize
     requires { ⌜ (length (now text) ≤ 1048576) × (128 ≤ length (now out)) ⌝ }
-    ensures { λ r. ⌜ Wrote (explained (now (text .entry)) v) r (now (out .entry)) (now (out .exit)) ⌝ }
+    ensures { λ r. ⌜ Wrote (explained (now (text .entry)) line v) r (now (out .entry)) (now (out .exit)) ⌝ }
 {
     match v {
         Verdict::Checked(_) => 0,
         Verdict::Refused { number, place } => {
-            let line = entry_text::numbering::line_of_record(text, place as usize);
-            let a = entry_text::messages::write_line_number(line, out);
-            a + write_refusal_words(number, &mut out[a..])
+            let l = entry_text::numbering::line_of_record(text, place as usize);
+            let a = entry_text::messages::write_line_number(l, out);
+            a + write_refusal_words(line.grid, number, &mut out[a..])
         }
     }
 }
@@ -56,7 +59,7 @@ fn write_typed_sheet(text: &[u8], line: Line, circuits: &[u8], out: &mut [u8]) -
 {
     let a = crate::write_sheet(line, circuits, &mut out[0..147536]);
     let v = refusals::admit::of_circuits(line, circuits);
-    a + write_explained(text, v, &mut out[a..])
+    a + write_explained(text, line, v, &mut out[a..])
 }
 
 // What is printed for a text, at the start of a buffer; the circuits are read into another, which has room for as many as the planner takes. What is told: how many bytes.
@@ -68,14 +71,14 @@ fn write_typed(text: &[u8], circuits: &mut [u8], out: &mut [u8]) -> usize
     match e {
         Entry::Wrong { line, expected } => entry_text::messages::write_message(text, e, out),
         Entry::Entered {
-            n,
-            w,
+            header,
             circuits: many,
         } => {
             let k = 8 * many;
             let line = Line {
-                links: records::numbers::index(n),
-                wavelengths: records::numbers::index(w),
+                links: records::numbers::index(header.n),
+                wavelengths: records::numbers::index(header.w),
+                grid: records::numbers::index(header.grid),
             };
             write_typed_sheet(text, line, &circuits[0..k], out)
         }

@@ -1,12 +1,13 @@
 -- Laws of records: writing and reading are inverse where the fields fit. Assumes nothing.
 use Prim.Native.Nat.{ℕ, zero, suc, _+_, _*_, _/_, _%_, _<_}
 use mathlib.Core.Path.{_≡_, refl, ap, _∙_, sym, subst}
+use mathlib.Core.Bool.{Bool, true, false}
 use mathlib.Core.List.{List, [], _∷_, _++_}
 use native.Mathlib.Nat.{mod-add-div}
 use native.Mathlib.Omega.{arith}
 use lib.ListN.{length, getD}
 use Rattle.records.specs.Bytes.{le16, le32, bytes16, bytes32, cellsOf, encode}
-use Rattle.records.specs.LineFiles.{lineBytes, lineIn}
+use Rattle.records.specs.LineFiles.{lineBytes, lineIn, lineOn}
 use Rattle.records.specs.declared.LineFile.the-variants.{Says}
 use Rattle.records.specs.Records.{circuitOf, fibreOf, assignmentOf, circuitBytes, fibreBytes, assignmentBytes}
 use Rattle.records.specs.declared.Circuit.{Circuit}
@@ -19,10 +20,11 @@ use Rattle.records.proofs.Parts.{written-out}
 pub le16-bytes16 : (v : ℕ) → le16 (bytes16 v) 0 ≡ v
 le16-bytes16 v = mod-add-div v 256
 
--- the bytes of a line's file say that line
-pub line-read-written : (n w : ℕ) → lineIn (lineBytes n w) ≡ Says (record { links = n; wavelengths = w })
-unfolding lineIn lineBytes
-line-read-written n w = λ i. Says (record { links = le16-bytes16 n i; wavelengths = le16-bytes16 w i })
+-- the bytes of a line's file say that line, which is on grid 1 if they do not name it
+pub line-read-written : (n w grid : ℕ) (named : Bool) → (named ≡ false → grid ≡ 1) → lineIn (lineBytes n w grid named) ≡ Says (record { links = n; wavelengths = w; grid = grid })
+unfolding lineIn lineOn lineBytes
+line-read-written n w grid false h = λ i. Says (record { links = le16-bytes16 n i; wavelengths = le16-bytes16 w i; grid = sym (h refl) i })
+line-read-written n w grid true h = λ i. Says (record { links = le16-bytes16 n i; wavelengths = le16-bytes16 w i; grid = le16-bytes16 grid i })
 
 -- the four bytes of a number are read as that number
 pub le32-bytes32 : (v : ℕ) → le32 (bytes32 v) 0 ≡ v

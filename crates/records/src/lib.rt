@@ -4,16 +4,17 @@ ghost use mathlib.Core.List.{[], _∷_};
 ghost use Prim.Native.Nat.{_+_, _*_, _≤_};
 ghost use lib.ListN.{length};
 ghost use Rattle.records.specs.Bytes.{encode};
-ghost use Rattle.records.specs.LineFiles.{lineIn};
+ghost use Rattle.records.specs.LineFiles.{lineIn, lineOn};
 ghost use Rattle.records.specs.Records.{recordAt, circuitOf, fibreOf, assignmentOf, circuitBytes, fibreBytes, assignmentBytes, putRecord};
 
 pub mod cells;
 pub mod numbers;
 
-// A line: how many links, and how many wavelengths a fibre carries.
+// A line: how many links, how many wavelengths a fibre carries, and the number of their grid.
 pub struct Line {
     pub links: usize,
     pub wavelengths: usize,
+    pub grid: usize,
 }
 
 // What the bytes of a line's file say: a line, or none.
@@ -44,17 +45,29 @@ pub struct AssignmentRecord {
     pub wavelength: u16,
 }
 
+// The line whose links and wavelengths the first four bytes say, on a grid.
+fn line_on(bytes: &[u8], grid: usize) -> Line
+    requires { ⌜ 4 ≤ length (now bytes) ⌝ }
+    ensures { λ r. ⌜ r ≡ lineOn (now (bytes .entry)) grid ⌝ }
+{
+    Line {
+        links: numbers::index(numbers::read16(bytes, 0)),
+        wavelengths: numbers::index(numbers::read16(bytes, 2)),
+        grid,
+    }
+}
+
 // The line that the bytes of `line.rec` say.
 pub fn line_in(bytes: &[u8]) -> LineFile
     ensures { λ r. ⌜ r ≡ lineIn (now (bytes .entry)) ⌝ }
 {
-    if bytes.len() != 4 {
+    if bytes.len() == 4 {
+        return LineFile::Says(line_on(bytes, 1));
+    }
+    if bytes.len() != 6 {
         return LineFile::Unclear;
     }
-    LineFile::Says(Line {
-        links: numbers::index(numbers::read16(bytes, 0)),
-        wavelengths: numbers::index(numbers::read16(bytes, 2)),
-    })
+    LineFile::Says(line_on(bytes, numbers::index(numbers::read16(bytes, 4))))
 }
 
 // The circuit that an 8-byte part holds.

@@ -69,14 +69,14 @@ pub file-few : (s : List ℕ) (z y : ℕ) (t : Verdict) → t ≡ verdict (fileR
 unfolding fileRows
 file-few s z y t a b = passed2 (length s / 8) (none-first _ _ (none-rest _ _ (verdict-passed (fileRows s) z y (sym a ∙ b) .1)))
 
--- tests 1 to 7 passed: there are at most 2,048 circuits
+-- tests 1 to 7 and 12 passed: there are at most 2,048 circuits
 pub circuits-few : (line : Line) (s : List ℕ) (z y : ℕ) (t : Verdict) → t ≡ verdict (circuitRows line s) z → t ≡ Checked y → length s / 8 ≤ 2048
 unfolding circuitRows fileRows
 circuits-few line s z y t a b =
     let p = none-left (fileRows s) _ (verdict-passed (circuitRows line s) z y (sym a ∙ b) .1) in
     passed2 (length s / 8) (none-first _ _ (none-rest _ _ p))
 
--- tests 1 to 7 passed: there are at most 512 links
+-- tests 1 to 7 and 12 passed: there are at most 512 links
 pub circuits-short : (line : Line) (s : List ℕ) (z y : ℕ) (t : Verdict) → t ≡ verdict (circuitRows line s) z → t ≡ Checked y → line .links ≤ 512
 unfolding circuitRows lineRows
 circuits-short line s z y t a b =

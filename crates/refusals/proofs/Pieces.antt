@@ -12,6 +12,7 @@ use Rattle.basics.specs.Tools.{every}
 use Rattle.basics.proofs.Searches.{every-at}
 use Rattle.records.specs.Records.{recordAt, circuitOf, numberIn}
 use Rattle.records.specs.declared.Line.{Line}
+use Rattle.grid.specs.Frequencies.{isGrid, limitOf}
 use Rattle.refusals.specs.Refusals.{Refusal}
 use Rattle.refusals.specs.Table.{Row, whenever, wherever, firstRecord, badEnds, repeats, fileRows, lineRows, recordRows, circuitRows, areaRows, planTable}
 use Rattle.refusals.specs.Given.{rowAt, Given, InOrder, NoneApplies}
@@ -74,10 +75,11 @@ unfolding fileRows
 file-in-order s = (whenever-gives 1 (not (eqb (length s % 8) 0)), (whenever-gives 2 (ltb 2048 (length s / 8)), tt))
 
 -- the line
-line-in-order : (line : Line) → InOrder (3 ∷ 4 ∷ []) (lineRows line)
+line-in-order : (line : Line) → InOrder (3 ∷ 12 ∷ 4 ∷ []) (lineRows line)
 unfolding lineRows
 line-in-order line =
-    (whenever-gives 3 (not (leb 1 (line .links) && leb (line .links) 512)), (whenever-gives 4 (not (leb 1 (line .wavelengths) && leb (line .wavelengths) 40)), tt))
+    let four = whenever-gives 4 (not (leb 1 (line .wavelengths) && leb (line .wavelengths) (limitOf (line .grid)))) in
+    (whenever-gives 3 (not (leb 1 (line .links) && leb (line .links) 512)), (whenever-gives 12 (not (isGrid (line .grid))), (four, tt)))
 
 -- the records
 record-in-order : (n m : ℕ) (s : List ℕ) → InOrder (5 ∷ 6 ∷ 7 ∷ []) (recordRows n m s)
@@ -92,22 +94,22 @@ unfolding areaRows
 area-in-order n m fibres assigns work =
     (whenever-gives 8 (ltb fibres (8 * m)), (whenever-gives 9 (ltb assigns (8 * m)), (whenever-gives 10 (ltb work (4 * n + 4 * m)), tt)))
 
--- tests 1 to 7
-circuits-in-order : (line : Line) (s : List ℕ) → InOrder (1 ∷ 2 ∷ 3 ∷ 4 ∷ 5 ∷ 6 ∷ 7 ∷ []) (circuitRows line s)
+-- tests 1 to 7 and 12
+circuits-in-order : (line : Line) (s : List ℕ) → InOrder (1 ∷ 2 ∷ 3 ∷ 12 ∷ 4 ∷ 5 ∷ 6 ∷ 7 ∷ []) (circuitRows line s)
 unfolding circuitRows
 circuits-in-order line s =
     let rs = recordRows (line .links) (length s / 8) s in
     let records = in-order-both (5 ∷ 6 ∷ 7 ∷ []) [] rs [] (record-in-order (line .links) (length s / 8) s) tt in
-    let drawn = in-order-both (3 ∷ 4 ∷ []) (5 ∷ 6 ∷ 7 ∷ []) (lineRows line) (rs ++ []) (line-in-order line) records in
-    in-order-both (1 ∷ 2 ∷ []) (3 ∷ 4 ∷ 5 ∷ 6 ∷ 7 ∷ []) (fileRows s) (lineRows line ++ (rs ++ [])) (file-in-order s) drawn
+    let drawn = in-order-both (3 ∷ 12 ∷ 4 ∷ []) (5 ∷ 6 ∷ 7 ∷ []) (lineRows line) (rs ++ []) (line-in-order line) records in
+    in-order-both (1 ∷ 2 ∷ []) (3 ∷ 12 ∷ 4 ∷ 5 ∷ 6 ∷ 7 ∷ []) (fileRows s) (lineRows line ++ (rs ++ [])) (file-in-order s) drawn
 
--- the tests of the planner stand in the order of their numbers
-pub plan-in-order : (line : Line) (s : List ℕ) (fibres assigns work : ℕ) → InOrder (1 ∷ 2 ∷ 3 ∷ 4 ∷ 5 ∷ 6 ∷ 7 ∷ 8 ∷ 9 ∷ 10 ∷ []) (planTable line s fibres assigns work)
+-- the tests of the planner stand in the order of their numbers, with 12 just before 4
+pub plan-in-order : (line : Line) (s : List ℕ) (fibres assigns work : ℕ) → InOrder (1 ∷ 2 ∷ 3 ∷ 12 ∷ 4 ∷ 5 ∷ 6 ∷ 7 ∷ 8 ∷ 9 ∷ 10 ∷ []) (planTable line s fibres assigns work)
 unfolding planTable
 plan-in-order line s fibres assigns work =
     let rs = areaRows (line .links) (length s / 8) fibres assigns work in
     let areas = in-order-both (8 ∷ 9 ∷ 10 ∷ []) [] rs [] (area-in-order (line .links) (length s / 8) fibres assigns work) tt in
-    in-order-both (1 ∷ 2 ∷ 3 ∷ 4 ∷ 5 ∷ 6 ∷ 7 ∷ []) (8 ∷ 9 ∷ 10 ∷ []) (circuitRows line s) (rs ++ []) (circuits-in-order line s) areas
+    in-order-both (1 ∷ 2 ∷ 3 ∷ 12 ∷ 4 ∷ 5 ∷ 6 ∷ 7 ∷ []) (8 ∷ 9 ∷ 10 ∷ []) (circuitRows line s) (rs ++ []) (circuits-in-order line s) areas
 
 -- what a row gives is one of the numbers
 in-order-at : (xs : List ℕ) (rows : List Row) → InOrder xs rows → (i : ℕ) (r : Refusal) → i < length rows → rowAt rows i ≡ some r → (i < length xs) × (r .number ≡ getD xs i 0)
@@ -121,7 +123,7 @@ in-order-at (x ∷ xs) (row ∷ rows) o (suc i) r h e = let z = in-order-at xs r
 pub plan-named : (line : Line) (s : List ℕ) (fibres assigns work : ℕ) (r : Refusal) → Given (planTable line s fibres assigns work) r → 1 ≤ r .number
 unfolding every
 plan-named line s fibres assigns work r g =
-    let ns : List ℕ = 1 ∷ 2 ∷ 3 ∷ 4 ∷ 5 ∷ 6 ∷ 7 ∷ 8 ∷ 9 ∷ 10 ∷ [] in
+    let ns : List ℕ = 1 ∷ 2 ∷ 3 ∷ 12 ∷ 4 ∷ 5 ∷ 6 ∷ 7 ∷ 8 ∷ 9 ∷ 10 ∷ [] in
     let z = in-order-at ns (planTable line s fibres assigns work) (plan-in-order line s fibres assigns work) (g .index) r (g .below) (g .here) in
-    let y : leb 1 (getD ns (g .index) 0) ≡ true = every-at (λ i. leb 1 (getD ns i 0)) 0 10 refl (g .index) (omega arith) (omega arith) in
+    let y : leb 1 (getD ns (g .index) 0) ≡ true = every-at (λ i. leb 1 (getD ns i 0)) 0 11 refl (g .index) (omega arith) (omega arith) in
     omega (arith, leb-true 1 (getD ns (g .index) 0) y, z .1)

@@ -1,4 +1,5 @@
 pub mod Refusals
 pub mod Table
 pub mod Given
+pub mod Bench
 pub mod inner

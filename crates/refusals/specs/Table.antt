@@ -10,6 +10,7 @@ use Rattle.basics.specs.Tools.{any, seek}
 use Rattle.records.specs.Records.{recordAt, circuitOf, numberIn}
 use Rattle.records.specs.declared.Circuit.{Circuit}
 use Rattle.records.specs.declared.Line.{Line}
+use Rattle.grid.specs.Frequencies.{isGrid, limitOf}
 use Rattle.refusals.specs.Refusals.{Refusal, refusedOr}
 use Rattle.refusals.specs.declared.Verdict.{Verdict}
 use Rattle.refusals.specs.declared.Verdict.the-variants.{Checked}
@@ -60,6 +61,10 @@ row3 limit n = whenever 3 (not (leb 1 n && leb n limit))
 abbrev pub row4 : ℕ → ℕ → Row
 row4 limit w = whenever 4 (not (leb 1 w && leb w limit))
 
+-- 12: the grid is neither 1 nor 2
+abbrev pub row12 : ℕ → Row
+row12 grid = whenever 12 (not (isGrid grid))
+
 -- 5: a circuit number is 0
 abbrev pub row5 : List ℕ → ℕ → Row
 row5 s m = wherever 5 (firstRecord (λ i. eqb (numberIn s i) 0) m)
@@ -97,15 +102,15 @@ verdict (row ∷ rows) x = refusedOr row (verdict rows x)
 unfoldable pub fileRows : List ℕ → List Row
 fileRows s = row1 s ∷ row2 (length s / 8) ∷ []
 
--- the line: its links, its wavelengths
+-- the line: its links, its grid, and its wavelengths, as many as the grid has at most
 unfoldable pub lineRows : Line → List Row
-lineRows line = row3 512 (line .links) ∷ row4 40 (line .wavelengths) ∷ []
+lineRows line = row3 512 (line .links) ∷ row12 (line .grid) ∷ row4 (limitOf (line .grid)) (line .wavelengths) ∷ []
 
 -- the records of m circuits, on a line of n links
 unfoldable pub recordRows : ℕ → ℕ → List ℕ → List Row
 recordRows n m s = row5 s m ∷ row6 n s m ∷ row7 s m ∷ []
 
--- tests 1 to 7, for a line and circuit bytes s
+-- tests 1 to 7, with 12 before 4, for a line and circuit bytes s
 unfoldable pub circuitRows : Line → List ℕ → List Row
 circuitRows line s = fileRows s ++ (lineRows line ++ (recordRows (line .links) (length s / 8) s ++ []))
 

@@ -30,7 +30,11 @@ pub fn of_line(line: Line) -> Verdict
     let Verdict::Checked(_) = t3 else {
         return t3;
     };
-    let t4 = crate::waves(line.wavelengths, 40);
+    let t12 = crate::known_grid(line.grid);
+    let Verdict::Checked(_) = t12 else {
+        return t12;
+    };
+    let t4 = crate::waves(line.wavelengths, line.grid);
     let Verdict::Checked(_) = t4 else {
         return t4;
     };
@@ -57,7 +61,7 @@ pub fn of_records(n: usize, m: usize, circuits: &[u8]) -> Verdict
     Verdict::Checked(m)
 }
 
-// Tests 1 to 7: the circuits of a file on a line. What is found: how many circuits.
+// Tests 1 to 7, with 12 before 4: the circuits of a file on a line. What is found: how many circuits.
 pub fn of_circuits(line: Line, circuits: &[u8]) -> Verdict
     ensures { λ r. ⌜ r ≡ verdict (circuitRows line (now (circuits .entry))) (length (now (circuits .entry)) / 8) ⌝ }
 {

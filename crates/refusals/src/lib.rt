@@ -4,7 +4,8 @@ ghost use Prim.Native.Nat.{_+_, _*_, _/_, _≤_, _<_};
 ghost use mathlib.Core.Bool.{not, _&&_};
 ghost use lib.ListN.{length};
 ghost use lib.Dec.{leb, ltb};
-ghost use Rattle.refusals.specs.Table.{whenever, badEnds, tested, row1, row2, row3, row4, row5, row6, row7, row8, row9, row10};
+ghost use Rattle.grid.specs.Frequencies.{limitOf};
+ghost use Rattle.refusals.specs.Table.{whenever, badEnds, tested, row1, row2, row3, row4, row5, row6, row7, row8, row9, row10, row12};
 ghost use Rattle.refusals.specs.inner.Remainders.{remainderOf};
 
 pub mod admit;
@@ -62,11 +63,24 @@ pub fn line(n: usize, limit: usize) -> Verdict
     within(3, n, limit)
 }
 
-// 4: 1 to `limit` wavelengths.
-pub fn waves(w: usize, limit: usize) -> Verdict
-    ensures { λ r. ⌜ r ≡ tested (row4 limit w) w ⌝ }
+// 12: a grid that there is.
+pub fn known_grid(grid: usize) -> Verdict
+    ensures { λ r. ⌜ r ≡ tested (row12 grid) grid ⌝ }
 {
-    within(4, w, limit)
+    if grid::is_grid(grid) {
+        return Verdict::Checked(grid);
+    }
+    Verdict::Refused {
+        number: 12,
+        place: 0,
+    }
+}
+
+// 4: 1 to as many wavelengths as the grid has.
+pub fn waves(w: usize, grid: usize) -> Verdict
+    ensures { λ r. ⌜ r ≡ tested (row4 (limitOf grid) w) w ⌝ }
+{
+    within(4, w, grid::limit(grid))
 }
 
 // 5: no circuit number is 0.

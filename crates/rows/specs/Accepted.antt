@@ -15,7 +15,7 @@ pub record OnLine (n m : ℕ) (s : List ℕ) : Type 0 where
   pub lies : Lies n (circuitsIn m s)
   pub distinct : Distinct (circuitsIn m s)
 
--- and w wavelengths; 80 is the most that a grid to come allows
+-- and w wavelengths; 80 is the most that a grid has
 pub record Accepted (n w m : ℕ) (s : List ℕ) : Type 0 where
   pub file : OnLine n m s
   pub waves : (1 ≤ w) × (w ≤ 80)

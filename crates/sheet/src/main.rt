@@ -5,7 +5,7 @@ ghost use lib.ListN.{length};
 
 // Reads both files, and prints the sheet.
 fn read_and_print(line: &mut [u8], circuits: &mut [u8], out: &mut [u8])
-    requires { ⌜ (length (now line) ≡ 5) × (length (now circuits) ≡ 16392) × (147536 ≤ length (now out)) ⌝ }
+    requires { ⌜ (length (now line) ≡ 7) × (length (now circuits) ≡ 16392) × (147536 ≤ length (now out)) ⌝ }
 {
     let got_line = files::read_file(b"line.rec", line);
     let got_circuits = files::read_file(b"circuits.rec", circuits);
@@ -15,7 +15,7 @@ fn read_and_print(line: &mut [u8], circuits: &mut [u8], out: &mut [u8])
 
 // Lends the buffers.
 fn main() {
-    let mut line = [0u8; 5];
+    let mut line = [0u8; 7];
     let mut circuits = [0u8; 16392];
     let mut out = [0u8; 147536];
     read_and_print(&mut line, &mut circuits, &mut out);

@@ -13,7 +13,7 @@ fibre-room a b c d p q r s =
     omega (arith, length-decimal 4 a (omega arith), length-decimal 4 b (omega arith), length-decimal 4 c (omega arith), length-decimal 4 d (omega arith))
 
 -- a circuit's number has at most 10 digits, its fibre and wavelength at most 5 each, and its frequency at most 7
-pub circuit-room : (a b c d : ℕ) → a < 4294967296 → b < 65536 → c < 65536 → d ≡ 192000 + 100 * c
+pub circuit-room : (a b c d : ℕ) → a < 4294967296 → b < 65536 → c < 65536 → d ≤ 192050 + 100 * c
     → 6 + length (decimal a) + length (decimal b) + length (decimal c) + length (decimal d) ≤ 33
 circuit-room a b c d p q r e =
     omega (arith, length-decimal 9 a (omega arith), length-decimal 4 b (omega arith), length-decimal 4 c (omega arith), length-decimal 6 d (omega arith))

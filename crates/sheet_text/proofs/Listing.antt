@@ -1,7 +1,7 @@
 -- R-1's listing, line by line, and the refusal that only the program gives. Assumes nothing.
 use mathlib.Core.Path.{_≡_, refl}
 use mathlib.Core.List.{_++_}
-use Rattle.grid.specs.Frequencies.{channelOf, frequencyOf}
+use Rattle.grid.specs.Frequencies.{anchorOf, spacingOf, channelOf, frequencyOf}
 use Rattle.sheet_text.specs.Text.{fields, line, fibreLine, circuitLine, totalLine, refusalLine}
 use Rattle.text.specs.Decimals.{decimalIn, decimal}
 use Rattle.text.specs.Words.{words, codes}
@@ -12,12 +12,17 @@ pub fibres-listed : fibreLine (record { number = 1; first = 1; last = 5; layer =
 unfolding fibreLine line fields decimal decimalIn words codes
 fibres-listed = refl
 
--- the four circuits
-pub circuits-listed : circuitLine (record { circuit = 10; fibre = 1; wavelength = 2 }) ++ circuitLine (record { circuit = 20; fibre = 2; wavelength = 1 })
-    ++ circuitLine (record { circuit = 30; fibre = 1; wavelength = 1 }) ++ circuitLine (record { circuit = 40; fibre = 1; wavelength = 2 })
+-- the four circuits, on grid 1
+pub circuits-listed : circuitLine 1 (record { circuit = 10; fibre = 1; wavelength = 2 }) ++ circuitLine 1 (record { circuit = 20; fibre = 2; wavelength = 1 })
+    ++ circuitLine 1 (record { circuit = 30; fibre = 1; wavelength = 1 }) ++ circuitLine 1 (record { circuit = 40; fibre = 1; wavelength = 2 })
     ≡ words "C 10 1 2 192200\nC 20 2 1 192100\nC 30 1 1 192100\nC 40 1 2 192200\n"
-unfolding circuitLine line fields decimal decimalIn frequencyOf channelOf words codes
+unfolding circuitLine line fields decimal decimalIn frequencyOf channelOf anchorOf spacingOf words codes
 circuits-listed = refl
+
+-- the first of them on grid 2
+pub circuit-listed : circuitLine 2 (record { circuit = 10; fibre = 1; wavelength = 2 }) ≡ words "C 10 1 2 192150\n"
+unfolding circuitLine line fields decimal decimalIn frequencyOf channelOf anchorOf spacingOf words codes
+circuit-listed = refl
 
 -- the totals
 pub totals-listed : totalLine 2 9 6 ≡ words "T 2 9 6\n"

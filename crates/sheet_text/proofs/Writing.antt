@@ -36,6 +36,6 @@ unfolding fibreLines
 fibre-more i s f e = rw (add-one i, fibreLines) (ap (λ (r : FibreRecord). fibreLines i s ++ fibreLine r) e)
 
 -- i lines and the line of assignment record i are i + 1 lines
-pub circuit-more : (i : ℕ) (s : List ℕ) (a : AssignmentRecord) → a ≡ assignmentOf (recordAt s i) → circuitLines i s ++ circuitLine a ≡ circuitLines (i + 1) s
+pub circuit-more : (grid i : ℕ) (s : List ℕ) (a : AssignmentRecord) → a ≡ assignmentOf (recordAt s i) → circuitLines grid i s ++ circuitLine grid a ≡ circuitLines grid (i + 1) s
 unfolding circuitLines
-circuit-more i s a e = rw (add-one i, circuitLines) (ap (λ (r : AssignmentRecord). circuitLines i s ++ circuitLine r) e)
+circuit-more grid i s a e = rw (add-one i, circuitLines) (ap (λ (r : AssignmentRecord). circuitLines grid i s ++ circuitLine grid r) e)

@@ -23,9 +23,9 @@ line letter xs = (letter ∷ fields xs) ++ (10 ∷ [])
 unfoldable pub fibreLine : FibreRecord → List ℕ
 fibreLine f = line 70 (f .number ∷ f .first ∷ f .last ∷ f .layer ∷ [])
 
--- C: circuit, fibre, wavelength, frequency in GHz
-unfoldable pub circuitLine : AssignmentRecord → List ℕ
-circuitLine a = line 67 (a .circuit ∷ a .fibre ∷ a .wavelength ∷ natAbs (frequencyOf (a .wavelength)) ∷ [])
+-- C: circuit, fibre, wavelength, frequency on the grid in GHz
+unfoldable pub circuitLine : ℕ → AssignmentRecord → List ℕ
+circuitLine grid a = line 67 (a .circuit ∷ a .fibre ∷ a .wavelength ∷ natAbs (frequencyOf grid (a .wavelength)) ∷ [])
 
 -- T: fibres, total length, floor
 unfoldable pub totalLine : ℕ → ℕ → ℕ → List ℕ
@@ -41,10 +41,10 @@ fibreLines zero fibres = []
 fibreLines (suc k) fibres = fibreLines k fibres ++ fibreLine (fibreOf (recordAt fibres k))
 
 -- the lines of the first m assignment records
-unfoldable pub circuitLines : ℕ → List ℕ → List ℕ
-circuitLines zero assigns = []
-circuitLines (suc m) assigns = circuitLines m assigns ++ circuitLine (assignmentOf (recordAt assigns m))
+unfoldable pub circuitLines : ℕ → ℕ → List ℕ → List ℕ
+circuitLines grid zero assigns = []
+circuitLines grid (suc m) assigns = circuitLines grid m assigns ++ circuitLine grid (assignmentOf (recordAt assigns m))
 
--- the sheet of k fibres and m circuits
-unfoldable pub sheetText : ℕ → ℕ → List ℕ → List ℕ → ℕ → ℕ → List ℕ
-sheetText k m fibres assigns total floor = fibreLines k fibres ++ circuitLines m assigns ++ totalLine k total floor
+-- the sheet of k fibres and m circuits on a grid
+unfoldable pub sheetText : ℕ → ℕ → ℕ → List ℕ → List ℕ → ℕ → ℕ → List ℕ
+sheetText grid k m fibres assigns total floor = fibreLines k fibres ++ circuitLines grid m assigns ++ totalLine k total floor

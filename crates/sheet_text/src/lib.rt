@@ -16,8 +16,9 @@ pub fn write_refusal(number: u32, place: u32, out: &mut [u8]) -> usize
     lines::write_two(82, number as usize, place as usize, out)
 }
 
-// The sheet of k fibre records and m assignment records, at the start of the buffer. What is told: its length.
+// The sheet of k fibre records and m assignment records on a grid, at the start of the buffer. What is told: its length.
 pub fn write_sheet(
+    grid: usize,
     k: usize,
     m: usize,
     fibres: &[u8],
@@ -28,9 +29,9 @@ pub fn write_sheet(
 ) -> usize
     requires { ⌜ (8 * k ≤ length (now fibres)) × (8 * m ≤ length (now assigns)) × (k ≤ 2048) × (m ≤ 2048) ⌝ }
     requires { ⌜ 32 * k + 40 * m + 80 ≤ length (now out) ⌝ }
-    ensures { λ r. ⌜ Wrote (sheetText k m (now (fibres .entry)) (now (assigns .entry)) total floor) r (now (out .entry)) (now (out .exit)) ⌝ }
+    ensures { λ r. ⌜ Wrote (sheetText grid k m (now (fibres .entry)) (now (assigns .entry)) total floor) r (now (out .entry)) (now (out .exit)) ⌝ }
 {
     let f = lists::write_fibres(k, fibres, out);
-    let c = f + lists::write_circuits(m, assigns, &mut out[f..]);
+    let c = f + lists::write_circuits(grid, m, assigns, &mut out[f..]);
     c + lines::write_three(84, k, total, floor, &mut out[c..])
 }

@@ -62,12 +62,12 @@ pub fn write_fibre(f: FibreRecord, out: &mut [u8]) -> usize
     )
 }
 
-// The line of a circuit: its number, fibre, wavelength and frequency. What is told: its length.
-pub fn write_circuit(a: AssignmentRecord, out: &mut [u8]) -> usize
+// The line of a circuit: its number, fibre, wavelength and frequency on the grid. What is told: its length.
+pub fn write_circuit(grid: usize, a: AssignmentRecord, out: &mut [u8]) -> usize
     requires { ⌜ 40 ≤ length (now out) ⌝ }
-    ensures { λ r. ⌜ (r ≡ length (circuitLine a)) × (now (out .exit) ≡ circuitLine a ++ drop r (now (out .entry))) × (r ≤ 40) ⌝ }
+    ensures { λ r. ⌜ (r ≡ length (circuitLine grid a)) × (now (out .exit) ≡ circuitLine grid a ++ drop r (now (out .entry))) × (r ≤ 40) ⌝ }
 {
-    let ghz = grid::frequency(a.wavelength);
+    let ghz = grid::frequency(grid, a.wavelength);
     write_four(
         67,
         a.circuit as usize,

@@ -22,15 +22,15 @@ pub fn write_fibres(k: usize, fibres: &[u8], out: &mut [u8]) -> usize
 }
 
 // The lines of the first m assignment records. What is told: their length.
-pub fn write_circuits(m: usize, assigns: &[u8], out: &mut [u8]) -> usize
+pub fn write_circuits(grid: usize, m: usize, assigns: &[u8], out: &mut [u8]) -> usize
     requires { ⌜ (8 * m ≤ length (now assigns)) × (40 * m ≤ length (now out)) ⌝ }
-    ensures { λ r. ⌜ (r ≡ length (circuitLines m (now (assigns .entry))))
-        × (now (out .exit) ≡ circuitLines m (now (assigns .entry)) ++ drop r (now (out .entry))) × (r ≤ 40 * m) ⌝ }
+    ensures { λ r. ⌜ (r ≡ length (circuitLines grid m (now (assigns .entry))))
+        × (now (out .exit) ≡ circuitLines grid m (now (assigns .entry)) ++ drop r (now (out .entry))) × (r ≤ 40 * m) ⌝ }
 {
     let mut at: usize = 0;
     for i in 0..m {
         let a = records::assignment_at(assigns, i);
-        let n = lines::write_circuit(a, &mut out[at..]);
+        let n = lines::write_circuit(grid, a, &mut out[at..]);
         at = at + n;
     }
     at

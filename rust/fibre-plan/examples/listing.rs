@@ -1,12 +1,7 @@
 //! Plans four circuits on five links with two wavelengths, and prints the sheet.
-use fibre_plan::{plan, Circuit, Plan, Refusal};
+use fibre_plan::{plan, Circuit, Grid, Line, Plan, Refusal};
 
-/// The frequency of a wavelength, in GHz.
-fn frequency(wavelength: u16) -> u32 {
-    192_000 + 100 * u32::from(wavelength)
-}
-
-fn print(plan: &Plan) {
+fn print(plan: &Plan, grid: Grid) {
     for f in &plan.fibres {
         println!("F {} {} {} {}", f.number, f.first, f.last, f.layer);
     }
@@ -15,7 +10,7 @@ fn print(plan: &Plan) {
         println!(
             "C {} {fibre} {wavelength} {}",
             a.circuit,
-            frequency(wavelength)
+            grid.frequency(wavelength)
         );
     }
     println!("T {} {} {}", plan.fibres.len(), plan.total, plan.floor);
@@ -28,6 +23,11 @@ fn main() -> Result<(), Refusal> {
             first,
             last,
         });
-    print(&plan(5, 2, &circuits)?);
+    let line = Line {
+        links: 5,
+        wavelengths: 2,
+        grid: Grid::Ghz100,
+    };
+    print(&plan(line, &circuits)?, line.grid);
     Ok(())
 }

@@ -14,6 +14,7 @@ extern "C" {
     fn fibre_plan(
         links: usize,
         wavelengths: usize,
+        grid: usize,
         circuits: *const u8,
         circuits_len: usize,
         fibres: *mut u8,
@@ -29,6 +30,7 @@ extern "C" {
 pub fn call(
     links: usize,
     wavelengths: usize,
+    grid: usize,
     circuits: &[u8],
     fibres: &mut [u8],
     assignments: &mut [u8],
@@ -40,6 +42,7 @@ pub fn call(
         fibre_plan(
             links,
             wavelengths,
+            grid,
             circuits.as_ptr(),
             circuits.len(),
             fibres.as_mut_ptr(),
@@ -60,7 +63,7 @@ mod tests {
 
     #[test]
     fn a_plan_has_no_refusal_and_no_place() {
-        let answer = call(1, 1, &CIRCUIT, &mut [1; 8], &mut [1; 8], &mut [1; 8]);
+        let answer = call(1, 1, 1, &CIRCUIT, &mut [1; 8], &mut [1; 8], &mut [1; 8]);
         assert_eq!((answer.refusal, answer.place), (0, 0));
         assert_eq!((answer.fibres, answer.total, answer.floor), (1, 1, 1));
     }
@@ -68,7 +71,7 @@ mod tests {
     #[test]
     fn a_refusal_has_three_zeros() {
         let file = [CIRCUIT, CIRCUIT].concat();
-        let answer = call(1, 1, &file, &mut [1; 16], &mut [1; 16], &mut [1; 12]);
+        let answer = call(1, 1, 1, &file, &mut [1; 16], &mut [1; 16], &mut [1; 12]);
         assert_eq!((answer.refusal, answer.place), (7, 2));
         assert_eq!((answer.fibres, answer.total, answer.floor), (0, 0, 0));
     }

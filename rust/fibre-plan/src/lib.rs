@@ -13,15 +13,17 @@
 //! tested and not proved.
 //!
 //! ```
-//! use fibre_plan::{plan, Circuit, Refusal};
+//! use fibre_plan::{plan, Circuit, Grid, Line, Refusal};
 //!
+//! let line = Line { links: 5, wavelengths: 2, grid: Grid::Ghz100 };
 //! let circuits = [
 //!     Circuit { number: 10, first: 1, last: 3 },
 //!     Circuit { number: 20, first: 2, last: 5 },
 //! ];
-//! let plan = plan(5, 2, &circuits)?;
+//! let plan = plan(line, &circuits)?;
 //! assert_eq!(plan.fibres.len(), 1);
-//! assert_eq!(plan.assignments[1].circuit, 20);
+//! assert_eq!((plan.assignments[1].circuit, plan.assignments[1].wavelength), (20, 2));
+//! assert_eq!(line.grid.frequency(2), 192_200);
 //! assert_eq!((plan.total, plan.floor), (5, 5));
 //! # Ok::<(), Refusal>(())
 //! ```
@@ -29,20 +31,30 @@
 #![deny(unsafe_op_in_unsafe_fn)]
 
 mod abi;
+mod grid;
 mod records;
 mod refusal;
 
+pub use grid::Grid;
 pub use records::{Assignment, Circuit, Fibre, RECORD_BYTES};
 pub use refusal::Refusal;
 
 /// The most links that a line may have.
 pub const MAX_LINKS: usize = 512;
 
-/// The most wavelengths that a fibre may carry.
-pub const MAX_WAVELENGTHS: usize = 40;
-
 /// The most circuits that are planned at once.
 pub const MAX_CIRCUITS: usize = 2048;
+
+/// A line, and what its fibres carry.
+#[derive(Clone, Copy, Debug, PartialEq, Eq, Hash)]
+pub struct Line {
+    /// How many links it has, from 1 to [`MAX_LINKS`].
+    pub links: usize,
+    /// How many wavelengths each fibre carries, from 1 to the grid's [`Grid::max_wavelengths`].
+    pub wavelengths: usize,
+    /// The grid of the wavelengths.
+    pub grid: Grid,
+}
 
 /// The three numbers of a plan.
 #[derive(Clone, Copy, Debug, PartialEq, Eq, Hash)]
@@ -84,29 +96,33 @@ pub const fn work_bytes(links: usize, circuits: usize) -> usize {
     links.saturating_add(circuits).saturating_mul(4)
 }
 
-/// Plans circuits on a line of `links` links, on fibres of `wavelengths` wavelengths.
+/// Plans circuits on a line.
 ///
 /// ```
-/// use fibre_plan::{plan, Circuit, Refusal};
+/// use fibre_plan::{plan, Circuit, Grid, Line, Refusal};
 ///
+/// let line = Line { links: 5, wavelengths: 80, grid: Grid::Ghz50 };
 /// let past_the_end = [Circuit { number: 7, first: 5, last: 6 }];
-/// assert_eq!(plan(5, 1, &past_the_end), Err(Refusal::Ends { place: 1 }));
+/// assert_eq!(plan(line, &past_the_end), Err(Refusal::Ends { place: 1 }));
+/// let line = Line { grid: Grid::Ghz100, ..line };
+/// assert_eq!(plan(line, &past_the_end), Err(Refusal::Wavelengths));
 /// ```
 ///
 /// # Errors
 ///
-/// The first [`Refusal`] of the table that applies: one of 2 to 7, since the records are whole and
-/// the areas are large enough.
-pub fn plan(links: usize, wavelengths: usize, circuits: &[Circuit]) -> Result<Plan, Refusal> {
+/// The first [`Refusal`] of the table that applies: one of 2 to 7, since the records are whole, the
+/// grid is one of the two, and the areas are large enough.
+pub fn plan(line: Line, circuits: &[Circuit]) -> Result<Plan, Refusal> {
     // Past the limits the answer is a refusal, which needs neither the other circuits nor room.
     let bytes = records::encode(&circuits[..circuits.len().min(MAX_CIRCUITS + 1)]);
     let many = circuits.len().min(MAX_CIRCUITS);
     let mut fibres = vec![0; fibre_bytes(many)];
     let mut assignments = vec![0; assignment_bytes(many)];
-    let mut work = vec![0; work_bytes(links.min(MAX_LINKS), many)];
+    let mut work = vec![0; work_bytes(line.links.min(MAX_LINKS), many)];
     let counts = plan_bytes(
-        links,
-        wavelengths,
+        line.links,
+        line.wavelengths,
+        line.grid.number(),
         &bytes,
         &mut fibres,
         &mut assignments,
@@ -120,7 +136,8 @@ pub fn plan(links: usize, wavelengths: usize, circuits: &[Circuit]) -> Result<Pl
     })
 }
 
-/// Plans circuit records on lent areas, with no allocation.
+/// Plans circuit records on lent areas, with no allocation. Any number is taken for the grid; 1 and
+/// 2 are those of [`Grid`].
 ///
 /// Where it plans, the fibre records fill the start of `fibres`, the assignment records the start
 /// of `assignments`, and the first [`work_bytes`] bytes of `work` are zero; every other byte is
@@ -131,10 +148,12 @@ pub fn plan(links: usize, wavelengths: usize, circuits: &[Circuit]) -> Result<Pl
 ///
 /// let circuits = [7, 0, 0, 0, 1, 0, 1, 0];
 /// let (mut fibres, mut assignments, mut work) = ([0; 8], [0; 8], [0; 8]);
-/// let counts = plan_bytes(1, 1, &circuits, &mut fibres, &mut assignments, &mut work)?;
+/// let counts = plan_bytes(1, 1, 1, &circuits, &mut fibres, &mut assignments, &mut work)?;
 /// assert_eq!((counts.fibres, counts.total, counts.floor), (1, 1, 1));
 /// assert_eq!(fibres, [1, 0, 1, 0, 1, 0, 1, 0]);
 /// assert_eq!(assignments, [7, 0, 0, 0, 1, 0, 1, 0]);
+/// let refused = plan_bytes(1, 1, 3, &circuits, &mut fibres, &mut assignments, &mut work);
+/// assert_eq!(refused, Err(Refusal::Grid));
 /// # Ok::<(), Refusal>(())
 /// ```
 ///
@@ -144,12 +163,21 @@ pub fn plan(links: usize, wavelengths: usize, circuits: &[Circuit]) -> Result<Pl
 pub fn plan_bytes(
     links: usize,
     wavelengths: usize,
+    grid: usize,
     circuits: &[u8],
     fibres: &mut [u8],
     assignments: &mut [u8],
     work: &mut [u8],
 ) -> Result<Counts, Refusal> {
-    let answer = abi::call(links, wavelengths, circuits, fibres, assignments, work);
+    let answer = abi::call(
+        links,
+        wavelengths,
+        grid,
+        circuits,
+        fibres,
+        assignments,
+        work,
+    );
     match answer.refusal {
         0 => Ok(Counts {
             fibres: answer.fibres,

@@ -12,7 +12,9 @@ pub enum Refusal {
     Circuits,
     /// 3: the number of links is not 1 to 512.
     Links,
-    /// 4: the number of wavelengths is not 1 to 40.
+    /// 12: the grid is neither 1 nor 2. It is tested between 3 and 4.
+    Grid,
+    /// 4: the number of wavelengths is not 1 to 40, on grid 1, or 1 to 80, on grid 2.
     Wavelengths,
     /// 5: a circuit number is 0.
     Zero {
@@ -58,6 +60,7 @@ impl Refusal {
             8 => Self::FibreRoom,
             9 => Self::AssignmentRoom,
             10 => Self::WorkRoom,
+            12 => Self::Grid,
             _ => Self::Other { number, place },
         }
     }
@@ -75,6 +78,7 @@ impl Refusal {
             Self::FibreRoom => 8,
             Self::AssignmentRoom => 9,
             Self::WorkRoom => 10,
+            Self::Grid => 12,
             Self::Other { number, .. } => number,
         }
     }
@@ -96,7 +100,10 @@ impl Refusal {
             Self::Records => "the circuit bytes are not a multiple of 8",
             Self::Circuits => "there are more than 2,048 circuits",
             Self::Links => "the number of links is not 1 to 512",
-            Self::Wavelengths => "the number of wavelengths is not 1 to 40",
+            Self::Grid => "the grid is neither 1 nor 2",
+            Self::Wavelengths => {
+                "the number of wavelengths is not 1 to 40, on grid 1, or 1 to 80, on grid 2"
+            }
             Self::Zero { .. } => "its number is 0",
             Self::Ends { .. } => "its ends are not two links of the line, in order",
             Self::Repeated { .. } => "its number stands twice",

@@ -1,6 +1,6 @@
 //! One side of an idle link, planned alone, has the wavelengths and the fibre spans of the full plan.
-use fibre_plan::{plan, Circuit, Plan};
-use inputs::{Numbers, Rng};
+use fibre_plan::{plan, Circuit, Grid, Line, Plan};
+use inputs::{grid_and_wavelengths, Numbers, Rng};
 use std::collections::HashMap;
 
 /// What a circuit is given: first and last link of its fibre, and its wavelength; and the fibre's layer.
@@ -8,8 +8,7 @@ type Place = ((u16, u16, u16), u16);
 
 /// A file of circuits on a line with an idle link.
 struct Drawn {
-    links: usize,
-    wavelengths: usize,
+    line: Line,
     idle: u16,
     circuits: Vec<Circuit>,
 }
@@ -39,10 +38,14 @@ fn drawn([most_links, most_wavelengths, most_circuits]: [usize; 3], rng: &mut Rn
     let number = |i| Numbers::Shuffled.of(i);
     let circuits = (0..many).map(|i| beside(number(i), links as u16, idle, rng));
     let circuits = circuits.collect();
-    let wavelengths = rng.within(1, most_wavelengths);
-    Drawn {
+    let (grid, wavelengths) = grid_and_wavelengths(most_wavelengths, rng);
+    let line = Line {
         links,
         wavelengths,
+        grid: [Grid::Ghz100, Grid::Ghz50][grid - 1],
+    };
+    Drawn {
+        line,
         idle,
         circuits,
     }
@@ -60,14 +63,14 @@ fn places(plan: &Plan) -> HashMap<u32, Place> {
 
 /// Both sides are planned alone, with their circuits in another order. Whether a layer differs from that of the full plan.
 fn each_side_is_as_in_the_full_plan(file: &Drawn, rng: &mut Rng) -> bool {
-    let all = places(&plan(file.links, file.wavelengths, &file.circuits).unwrap());
+    let all = places(&plan(file.line, &file.circuits).unwrap());
     let (mut left, mut right): (Vec<Circuit>, Vec<Circuit>) =
         file.circuits.iter().partition(|c| c.last < file.idle);
     assert!(right.iter().all(|c| file.idle < c.first));
     let mut differs = false;
     for side in [&mut left, &mut right] {
         rng.shuffle(side);
-        let alone = places(&plan(file.links, file.wavelengths, side).unwrap());
+        let alone = places(&plan(file.line, side).unwrap());
         assert_eq!(alone.len(), side.len());
         for circuit in side {
             let (one, two) = (alone[&circuit.number], all[&circuit.number]);
@@ -95,5 +98,5 @@ fn each_side_of_an_idle_link() {
 
 #[test]
 fn each_side_of_an_idle_link_of_a_long_line() {
-    assert!(files(100, [512, 40, 2048]) > 50);
+    assert!(files(100, [512, 80, 2048]) > 50);
 }

@@ -20,6 +20,7 @@ struct Line([u8; 16]);
 struct Call {
     links: usize,
     wavelengths: usize,
+    grid: usize,
     circuits: Vec<u8>,
     fibres: Vec<u8>,
     assignments: Vec<u8>,
@@ -29,13 +30,14 @@ struct Call {
 
 impl Call {
     /// A call at the limits: 512 links and 2,048 circuits.
-    fn new(family: Family, numbers: Numbers, wavelengths: usize) -> Self {
+    fn new(family: Family, numbers: Numbers, (wavelengths, grid): (usize, usize)) -> Self {
         let mut rng = Rng::new(wavelengths as u64);
         let mut list = family.circuits(2048, 512, numbers, &mut rng);
         rng.shuffle(&mut list);
         Self {
             links: 512,
             wavelengths,
+            grid,
             circuits: encode(&list),
             fibres: vec![0; fibre_bytes(2048)],
             assignments: vec![0; assignment_bytes(2048)],
@@ -50,6 +52,7 @@ extern "C" fn make(call: &mut Call) {
     let answer = plan_bytes(
         call.links,
         call.wavelengths,
+        call.grid,
         &call.circuits,
         &mut call.fibres,
         &mut call.assignments,
@@ -102,9 +105,9 @@ fn a_call_uses_less_than_32_kb_of_stack() {
     let mut most = 0;
     for family in FAMILIES {
         for numbers in [Numbers::Rising, Numbers::Shuffled] {
-            for wavelengths in [1, 4, 16, 40] {
+            for carried in [(1, 1), (4, 2), (16, 1), (40, 1), (80, 2)] {
                 for paint in [0xa5, 0x5a] {
-                    let mut call = Call::new(family, numbers, wavelengths);
+                    let mut call = Call::new(family, numbers, carried);
                     let bytes = used(make, &mut call, paint);
                     assert!(call.planned);
                     most = most.max(bytes);

@@ -1,5 +1,5 @@
 //! The typed function says what the byte level says.
-use fibre_plan::{plan, plan_bytes, Assignment, Circuit, Fibre, Refusal};
+use fibre_plan::{plan, plan_bytes, Assignment, Circuit, Fibre, Grid, Line, Refusal};
 use inputs::{encode, Family, Numbers, Rng};
 
 fn circuits(list: &[(u32, u16, u16)]) -> Vec<Circuit> {
@@ -11,10 +11,23 @@ fn circuits(list: &[(u32, u16, u16)]) -> Vec<Circuit> {
     list.iter().map(typed).collect()
 }
 
+/// Both grids.
+const GRIDS: [Grid; 2] = [Grid::Ghz100, Grid::Ghz50];
+
+/// A line on grid 1.
+fn line(links: usize, wavelengths: usize) -> Line {
+    let grid = Grid::Ghz100;
+    Line {
+        links,
+        wavelengths,
+        grid,
+    }
+}
+
 #[test]
 fn the_listing() {
     let list = [(10, 1, 3), (20, 2, 5), (30, 1, 2), (40, 4, 5)];
-    let plan = plan(5, 2, &circuits(&list)).unwrap();
+    let plan = plan(line(5, 2), &circuits(&list)).unwrap();
     let fibre = |(number, first, last, layer)| Fibre {
         number,
         first,
@@ -36,11 +49,16 @@ fn the_listing() {
 #[test]
 fn the_bytes_as_types() {
     let list = Family::Random.circuits(300, 200, Numbers::Shuffled, &mut Rng::new(7));
-    let typed = plan(200, 8, &circuits(&list)).unwrap();
+    let fifty = Line {
+        grid: Grid::Ghz50,
+        ..line(200, 48)
+    };
+    let typed = plan(fifty, &circuits(&list)).unwrap();
     let (mut fibres, mut assignments, mut work) = ([1; 2400], [1; 2400], [1; 2000]);
     let counts = plan_bytes(
         200,
-        8,
+        48,
+        2,
         &encode(&list),
         &mut fibres,
         &mut assignments,
@@ -66,16 +84,43 @@ fn the_bytes_as_types() {
 #[test]
 fn refusals() {
     let good = circuits(&[(1, 1, 1)]);
-    assert_eq!(plan(0, 1, &good), Err(Refusal::Links));
-    assert_eq!(plan(usize::MAX, 1, &good), Err(Refusal::Links));
-    assert_eq!(plan(1, 41, &good), Err(Refusal::Wavelengths));
-    assert_eq!(plan(1, 1, &good.repeat(2049)), Err(Refusal::Circuits));
+    assert_eq!(plan(line(0, 1), &good), Err(Refusal::Links));
+    assert_eq!(plan(line(usize::MAX, 1), &good), Err(Refusal::Links));
+    assert_eq!(plan(line(1, 41), &good), Err(Refusal::Wavelengths));
+    assert_eq!(plan(line(1, 1), &good.repeat(2049)), Err(Refusal::Circuits));
     assert_eq!(
-        plan(1, 1, &good.repeat(2)),
+        plan(line(1, 1), &good.repeat(2)),
         Err(Refusal::Repeated { place: 2 })
     );
     let zero = circuits(&[(1, 9, 9), (0, 1, 1)]);
-    assert_eq!(plan(1, 1, &zero), Err(Refusal::Zero { place: 2 }));
+    assert_eq!(plan(line(1, 1), &zero), Err(Refusal::Zero { place: 2 }));
+}
+
+#[test]
+fn the_limit_of_each_grid() {
+    for (grid, limit) in GRIDS.into_iter().zip([40, 80]) {
+        assert_eq!(grid.max_wavelengths(), limit);
+        let answer = |wavelengths| {
+            let line = Line {
+                grid,
+                ..line(1, wavelengths)
+            };
+            plan(line, &circuits(&[(1, 1, 1)])).map(|plan| plan.total)
+        };
+        assert_eq!([1, limit].map(answer), [Ok(1); 2]);
+        assert_eq!([0, limit + 1].map(answer), [Err(Refusal::Wavelengths); 2]);
+    }
+}
+
+#[test]
+fn numbers_and_frequencies_of_each_grid() {
+    for (grid, number) in GRIDS.into_iter().zip(1..) {
+        assert_eq!(grid.number(), number);
+        for wavelength in 0..=u16::MAX {
+            let ghz = i64::from(grid.frequency(wavelength));
+            assert_eq!(ghz, i64::from(reference::frequency(number, wavelength)));
+        }
+    }
 }
 
 #[test]
@@ -87,6 +132,14 @@ fn refusals_as_text() {
     assert_eq!(
         Refusal::WorkRoom.to_string(),
         "refusal 10: the work area is too short"
+    );
+    assert_eq!(
+        Refusal::Grid.to_string(),
+        "refusal 12: the grid is neither 1 nor 2"
+    );
+    assert_eq!(
+        Refusal::Wavelengths.to_string(),
+        "refusal 4: the number of wavelengths is not 1 to 40, on grid 1, or 1 to 80, on grid 2"
     );
 }
 

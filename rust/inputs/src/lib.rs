@@ -29,6 +29,12 @@ pub fn ladder() -> Vec<Circuit> {
     numbered.map(|(number, (a, b))| (number, a, b)).collect()
 }
 
+/// A grid, 1 or 2, and a number of wavelengths that it allows, up to so many.
+pub fn grid_and_wavelengths(most: usize, rng: &mut Rng) -> (usize, usize) {
+    let (grid, limit) = [(1, 40), (2, 80)][rng.within(0, 1)];
+    (grid, rng.within(1, most.min(limit)))
+}
+
 /// Circuit numbers for a file: no two alike, and none 0.
 #[derive(Clone, Copy, Debug, PartialEq, Eq)]
 pub enum Numbers {

@@ -1,4 +1,5 @@
 //! Folders for one case each.
+use crate::Line;
 use std::collections::BTreeMap;
 use std::fs;
 use std::os::unix::fs::PermissionsExt;
@@ -52,9 +53,9 @@ impl Folder {
         folder
     }
 
-    /// A folder with the records of a line: n, w and the circuit file.
-    pub fn with_records(n: u16, w: u16, circuits: &[u8]) -> Self {
-        let line = [n.to_le_bytes(), w.to_le_bytes()].concat();
+    /// A folder with the records of a line: `line.rec` and the circuit file.
+    pub fn with_records(line: impl Into<Line>, circuits: &[u8]) -> Self {
+        let line = line.into().bytes();
         Self::with(&[("line.rec", &line), ("circuits.rec", circuits)])
     }
 

@@ -6,12 +6,14 @@
 
 mod draws;
 mod folder;
+mod line;
 mod run;
 mod sheet;
 pub mod texts;
 
 pub use draws::random_line;
 pub use folder::{Entry, Folder};
+pub use line::Line;
 pub use run::{
     as_nobody, program, run, run_as_nobody, run_command, run_without_input, start, Ran,
     UNREAD_INPUT,

@@ -1,4 +1,5 @@
 //! Sheets and texts as they should be.
+use crate::Line;
 use inputs::Circuit;
 use std::fmt::Write;
 
@@ -8,14 +9,16 @@ fn two_at(record: &[u8], at: usize) -> u16 {
 }
 
 /// The sheet of the records of a line, by the reference: its lines, or the line of the refusal.
-pub fn sheet_of(n: u16, w: u16, circuits: &[u8]) -> String {
+pub fn sheet_of(line: impl Into<Line>, circuits: &[u8]) -> String {
+    let line = line.into();
+    let grid = line.grid_meant();
+    let [n, w] = [line.n, line.w].map(usize::from);
     let many = circuits.len() / 8;
     let mut fibres = vec![0; 8 * many];
     let mut assignments = vec![0; 8 * many];
-    let mut work = vec![0; 4 * usize::from(n) + 4 * many];
+    let mut work = vec![0; 4 * n + 4 * many];
     let planned = reference::plan(
-        n.into(),
-        w.into(),
+        reference::Line { n, w, grid },
         circuits,
         &mut fibres,
         &mut assignments,
@@ -33,7 +36,7 @@ pub fn sheet_of(n: u16, w: u16, circuits: &[u8]) -> String {
     for record in assignments.chunks_exact(8) {
         let number = u32::from_le_bytes(record[..4].try_into().unwrap());
         let [fibre, wavelength] = [4, 6].map(|at| two_at(record, at));
-        let frequency = 193_100 + 100 * (i32::from(wavelength) - 11);
+        let frequency = reference::frequency(grid, wavelength);
         writeln!(text, "C {number} {fibre} {wavelength} {frequency}").unwrap();
     }
     writeln!(
@@ -46,8 +49,9 @@ pub fn sheet_of(n: u16, w: u16, circuits: &[u8]) -> String {
 }
 
 /// The text that a person would type for the circuits of a line.
-pub fn text_of(n: u16, w: u16, circuits: &[Circuit]) -> String {
-    let mut text = format!("{n} {w}\n");
+pub fn text_of(line: impl Into<Line>, circuits: &[Circuit]) -> String {
+    let header: Vec<String> = line.into().numbers().map(|x| x.to_string()).collect();
+    let mut text = header.join(" ") + "\n";
     for (number, first, last) in circuits {
         writeln!(text, "{number} {first} {last}").unwrap();
     }

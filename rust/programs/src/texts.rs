@@ -1,5 +1,5 @@
 //! Texts as a person types them: right ones with what they say, and wrong ones with what is said of them.
-use crate::text_of;
+use crate::{text_of, Line};
 use inputs::Circuit;
 
 /// The circuits of the scope paper's listing, on 5 links with 2 wavelengths.
@@ -8,8 +8,8 @@ pub const LISTING: [Circuit; 4] = [(10, 1, 3), (20, 2, 5), (30, 1, 2), (40, 4, 5
 /// The most bytes of a text.
 pub const MOST_BYTES: usize = 1_048_576;
 
-/// A text, and the n, w and circuits that it says.
-pub type Right = (Vec<u8>, u16, u16, Vec<Circuit>);
+/// A text, and the line and the circuits that it says.
+pub type Right = (Vec<u8>, Line, Vec<Circuit>);
 
 /// m circuits over link 1, numbered from 1.
 pub fn on_link_1(m: u32) -> Vec<Circuit> {
@@ -29,13 +29,44 @@ fn far_down(text: &str) -> (Vec<u8>, usize) {
     ([&vec![b'\n'; before], text.as_bytes()].concat(), before + 1)
 }
 
+/// A text that is right.
+fn says(text: impl Into<Vec<u8>>, line: impl Into<Line>, circuits: &[Circuit]) -> Right {
+    (text.into(), line.into(), circuits.to_vec())
+}
+
+/// Texts that name the grid, whatever it is.
+fn with_a_grid() -> Vec<Right> {
+    let listing = text_of((5, 2, 2), &LISTING);
+    vec![
+        says(text_of((5, 2, 1), &LISTING), (5, 2, 1), &LISTING),
+        says(listing.trim_end(), (5, 2, 2), &LISTING),
+        says(listing.replace('\n', "\r\n"), (5, 2, 2), &LISTING),
+        says(listing.replace(' ', "\t"), (5, 2, 2), &LISTING),
+        says(listing.replace('\n', " \t\n\n"), (5, 2, 2), &LISTING),
+        says(far_down("5 2 2").0, (5, 2, 2), &[]),
+        says("5 2 1", (5, 2, 1), &[]),
+        says("# a line\n\n5 2\t00002 \n# 5 2\n", (5, 2, 2), &[]),
+        says("5 41 1\n7 1 1\n", (5, 41, 1), &[(7, 1, 1)]),
+        says("5 41 2\n7 1 1\n", (5, 41, 2), &[(7, 1, 1)]),
+        says("5 80 2\n", (5, 80, 2), &[]),
+        says("5 81 2\n", (5, 81, 2), &[]),
+        says("2 5 1\n", (2, 5, 1), &[]),
+        says("1 2 5\n", (1, 2, 5), &[]),
+        says("5 2 0\n", (5, 2, 0), &[]),
+        says("5 0 3\n", (5, 0, 3), &[]),
+        says("5 2 258\n", (5, 2, 258), &[]),
+        says(
+            "65535 65535 65535\n0 0 0\n",
+            (65_535, 65_535, 65_535),
+            &[(0, 0, 0)],
+        ),
+    ]
+}
+
 /// Texts that are right.
 pub fn right_texts() -> Vec<Right> {
-    let listing = text_of(5, 2, &LISTING);
-    let of_listing = |text: String| (text.into_bytes(), 5, 2, LISTING.to_vec());
-    let says = |text: &str, n, w, circuits: &[Circuit]| {
-        (text.as_bytes().to_vec(), n, w, circuits.to_vec())
-    };
+    let listing = text_of((5, 2), &LISTING);
+    let of_listing = |text: String| says(text, (5, 2), &LISTING);
     let most = on_link_1(2048);
     let mut texts = vec![
         of_listing(listing.clone()),
@@ -53,33 +84,37 @@ pub fn right_texts() -> Vec<Right> {
                 .replace(' ', " 000")
                 .replace('\n', "\n00"),
         ),
-        (padded(&listing, MOST_BYTES), 5, 2, LISTING.to_vec()),
-        (far_down(&listing).0, 5, 2, LISTING.to_vec()),
-        (far_down("5 41\n").0, 5, 41, Vec::new()),
-        (text_of(1, 40, &most).into_bytes(), 1, 40, most),
-        says("5 2", 5, 2, &[]),
-        says("5 2\n", 5, 2, &[]),
-        says("# a line\n\n5 2\n# no circuits\n", 5, 2, &[]),
-        says("2 5\n", 2, 5, &[]),
-        says("256 1\n258 257 258\n", 256, 1, &[(258, 257, 258)]),
-        says("1 1\n16909060 772 1286\n", 1, 1, &[(16_909_060, 772, 1286)]),
+        says(padded(&listing, MOST_BYTES), (5, 2), &LISTING),
+        says(far_down(&listing).0, (5, 2), &LISTING),
+        says(far_down("5 41\n").0, (5, 41), &[]),
+        says(text_of((1, 40), &most), (1, 40), &most),
+        says("5 2", (5, 2), &[]),
+        says("5 2\n", (5, 2), &[]),
+        says("# a line\n\n5 2\n# no circuits\n", (5, 2), &[]),
+        says("2 5\n", (2, 5), &[]),
+        says("256 1\n258 257 258\n", (256, 1), &[(258, 257, 258)]),
+        says(
+            "1 1\n16909060 772 1286\n",
+            (1, 1),
+            &[(16_909_060, 772, 1286)],
+        ),
         says(
             "1 1\n4294967295 65535 65535\n",
-            1,
-            1,
+            (1, 1),
             &[(u32::MAX, 65_535, 65_535)],
         ),
-        says("65535 65535\n0 0 0\n", 65_535, 65_535, &[(0, 0, 0)]),
-        says("0 0\n7 1 1\n7 1 1\n", 0, 0, &[(7, 1, 1), (7, 1, 1)]),
+        says("65535 65535\n0 0 0\n", (65_535, 65_535), &[(0, 0, 0)]),
+        says("0 0\n7 1 1\n7 1 1\n", (0, 0), &[(7, 1, 1), (7, 1, 1)]),
     ];
     // A comment that ends at the last byte that is read.
     let comment = format!("{listing}#{}", "x".repeat(MOST_BYTES - listing.len() - 1));
     texts.push(of_listing(comment));
+    texts.extend(with_a_grid());
     texts
 }
 
-/// Words of a line that should be `n w`, and what is wrong with them.
-const WRONG_HEADERS: [(&[u8], &str); 24] = [
+/// Words of a line that should be `n w` or `n w grid`, and what is wrong with them.
+const WRONG_HEADERS: [(&[u8], &str); 39] = [
     (b"5", "a number missing"),
     (b"5 \t\r", "a number missing"),
     (b"5 # 2", "not a number"),
@@ -105,8 +140,24 @@ const WRONG_HEADERS: [(&[u8], &str); 24] = [
         b"5 99999999999999999999999999999999999999",
         "a number too large",
     ),
-    (b"5 2 1", "a word too many"),
-    (b"5 2 # the line", "a word too many"),
+    (b"5 2 x", "not a number"),
+    (b"5 2 # the line", "not a number"),
+    (b"5 2 1#", "not a number"),
+    (b"5 2 1.0", "not a number"),
+    (b"5 2 -1", "a sign"),
+    (b"5 2 +", "a sign"),
+    (b"5 2 \xef\xbb\xbf1", "a byte order mark"),
+    (b"5 2 65536", "a number too large"),
+    (b"5 2 4294967297", "a number too large"),
+    (b"5 2 1 7", "a word too many"),
+    (b"5 2 2 2", "a word too many"),
+    (b"5 2 1 # the line", "a word too many"),
+    (b"5 2 3 x", "a word too many"),
+    // Of two faults the first.
+    (b"5 -2 x", "a sign"),
+    (b"5 x 65536", "not a number"),
+    (b"65536 2 x", "a number too large"),
+    (b"5 2 x 7", "not a number"),
 ];
 
 /// Words of a line that should be `number first last`, and what is wrong with them.
@@ -144,17 +195,20 @@ const WRONG_CIRCUITS: [(&[u8], &str); 30] = [
     (b"10 \xef\xbb\xbf1", "a byte order mark"),
 ];
 
+/// What the first line that counts should be.
+const HEADER: &str = "(expected: n w, or n w grid)";
+
 /// Texts that are wrong, and the line that says so.
 pub fn wrong_texts() -> Vec<(Vec<u8>, String)> {
     let mut texts = Vec::new();
-    // Nothing where `n w` should be, on the line behind the last.
+    // Nothing where the header should be, on the line behind the last.
     for (text, line) in [("", 1), ("\n", 2), (" \r\n\t\n", 3), ("# 5 2\n\n# 5 2", 4)] {
-        let told = format!("line {line}: a number missing (expected: n w)\n");
+        let told = format!("line {line}: a number missing {HEADER}\n");
         texts.push((text.as_bytes().to_vec(), told));
     }
     for (words, fault) in WRONG_HEADERS {
         for (before, after, line) in [("", "", 1), ("\n# x\n \t", "\n10 1 3\nx\n", 3)] {
-            let told = format!("line {line}: {fault} (expected: n w)\n");
+            let told = format!("line {line}: {fault} {HEADER}\n");
             texts.push(([before.as_bytes(), words, after.as_bytes()].concat(), told));
         }
     }
@@ -174,7 +228,7 @@ pub fn wrong_texts() -> Vec<(Vec<u8>, String)> {
     texts.extend(too_many());
     let too_long = "a text of more than 1048576 bytes\n".to_owned();
     texts.push((
-        padded(&text_of(5, 2, &LISTING), MOST_BYTES + 1),
+        padded(&text_of((5, 2), &LISTING), MOST_BYTES + 1),
         too_long.clone(),
     ));
     texts.push((vec![b'\n'; MOST_BYTES + 1], too_long.clone()));
@@ -184,13 +238,13 @@ pub fn wrong_texts() -> Vec<(Vec<u8>, String)> {
 
 /// Texts with more circuits than are taken.
 fn too_many() -> Vec<(Vec<u8>, String)> {
-    let text = text_of(1, 1, &on_link_1(2049));
+    let text = text_of((1, 1), &on_link_1(2049));
     let [one, three] = [2050, 2053].map(|line| format!("line {line}: more than 2048 circuits\n"));
     let wrong = "line 2050: not a number (expected: number first last)\n";
     vec![
         (text.clone().into_bytes(), one.clone()),
         (text.trim_end().as_bytes().to_vec(), one.clone()),
-        (text_of(1, 1, &on_link_1(5000)).into_bytes(), one),
+        (text_of((1, 1), &on_link_1(5000)).into_bytes(), one),
         (format!("# x\n\n\n{text}").into_bytes(), three),
         (
             text.replace("\n2049 ", "\nx ").into_bytes(),

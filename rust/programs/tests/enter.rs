@@ -3,7 +3,7 @@ use inputs::{encode, Circuit};
 use programs::texts::{on_link_1, right_texts, wrong_texts, LISTING};
 use programs::{
     assert_same, program, run, run_as_nobody, run_command, run_without_input, sheet_of, text_of,
-    Entry, Folder, UNREAD_INPUT,
+    Entry, Folder, Line, UNREAD_INPUT,
 };
 use std::collections::BTreeMap;
 use std::fs;
@@ -24,13 +24,13 @@ const NOT_WRITTEN: &str = "line.rec and circuits.rec cannot be written\n";
 const NOT_REPLACED: &str = "line.rec and circuits.rec cannot be replaced\n";
 
 /// Just the two files of these records.
-fn files_of(n: u16, w: u16, circuits: &[Circuit]) -> BTreeMap<String, Entry> {
-    Folder::with_records(n, w, &encode(circuits)).entries()
+fn files_of(line: impl Into<Line>, circuits: &[Circuit]) -> BTreeMap<String, Entry> {
+    Folder::with_records(line, &encode(circuits)).entries()
 }
 
 /// A folder with other records.
 fn with_old() -> Folder {
-    Folder::with_records(9, 3, &encode(&[(77, 8, 9)]))
+    Folder::with_records((9, 3), &encode(&[(77, 8, 9)]))
 }
 
 /// A part of a text that a message can name, for a failure.
@@ -40,7 +40,7 @@ fn start_of(text: &[u8]) -> String {
 
 #[test]
 fn right_texts_give_the_bytes_of_both_files() {
-    for (text, n, w, circuits) in right_texts() {
+    for (text, line, circuits) in right_texts() {
         for folder in [Folder::new(), with_old()] {
             let out = run("enter", &folder, &text);
             assert_eq!(
@@ -49,9 +49,34 @@ fn right_texts_give_the_bytes_of_both_files() {
                 "{:?}",
                 start_of(&text)
             );
-            let right = folder.entries() == files_of(n, w, &circuits);
+            let right = folder.entries() == files_of(line, &circuits);
             assert!(right, "{:?} gives other files", start_of(&text));
         }
+    }
+}
+
+#[test]
+fn the_line_has_six_bytes_where_the_grid_is_named() {
+    for (text, bytes) in [
+        ("5 2\n", &[5, 0, 2, 0][..]),
+        ("5 2 1\n", &[5, 0, 2, 0, 1, 0]),
+        ("5 2 2\n", &[5, 0, 2, 0, 2, 0]),
+        ("5 2 772", &[5, 0, 2, 0, 4, 3]),
+    ] {
+        for folder in [Folder::new(), with_old()] {
+            assert_eq!(run("enter", &folder, text.as_bytes()), "circuits: 0\n");
+            assert_eq!(fs::read(folder.at("line.rec")).unwrap(), bytes, "{text}");
+        }
+    }
+}
+
+#[test]
+fn a_line_of_either_length_replaces_the_other() {
+    let folder = Folder::new();
+    for line in [Line::from((5, 2, 2)), (5, 2).into(), (5, 2, 1).into()] {
+        let out = run("enter", &folder, text_of(line, &LISTING).as_bytes());
+        assert_eq!(out, "circuits: 4\n");
+        assert!(folder.entries() == files_of(line, &LISTING), "{line:?}");
     }
 }
 
@@ -72,19 +97,19 @@ fn wrong_texts_are_told_and_change_nothing() {
 
 #[test]
 fn the_planner_reads_what_was_entered() {
-    for (text, n, w, circuits) in right_texts() {
+    for (text, line, circuits) in right_texts() {
         let folder = Folder::new();
         run("enter", &folder, &text);
         assert_same(
             &run("sheet", &folder, b""),
-            &sheet_of(n, w, &encode(&circuits)),
+            &sheet_of(line, &encode(&circuits)),
         );
     }
 }
 
 #[test]
 fn a_link_at_a_draft_is_not_followed() {
-    let text = text_of(5, 2, &LISTING);
+    let text = text_of((5, 2), &LISTING);
     for draft in DRAFTS {
         for there in [true, false] {
             let elsewhere = Folder::new();
@@ -95,7 +120,7 @@ fn a_link_at_a_draft_is_not_followed() {
             symlink(elsewhere.at("kept"), folder.at(draft)).unwrap();
             assert_eq!(run("enter", &folder, text.as_bytes()), "circuits: 4\n");
             assert!(elsewhere.entries() == before, "{draft} was followed");
-            assert!(folder.entries() == files_of(5, 2, &LISTING), "{draft}");
+            assert!(folder.entries() == files_of((5, 2), &LISTING), "{draft}");
         }
     }
 }
@@ -106,9 +131,9 @@ fn old_drafts_do_not_matter() {
     for draft in DRAFTS {
         folder.put(draft, &[7; 20_000]);
     }
-    let text = text_of(5, 2, &LISTING);
+    let text = text_of((5, 2), &LISTING);
     assert_eq!(run("enter", &folder, text.as_bytes()), "circuits: 4\n");
-    assert!(folder.entries() == files_of(5, 2, &LISTING));
+    assert!(folder.entries() == files_of((5, 2), &LISTING));
 }
 
 #[test]
@@ -118,10 +143,10 @@ fn a_link_in_place_of_a_file_is_replaced() {
         let before = elsewhere.entries();
         fs::remove_file(folder.at(name)).unwrap();
         symlink(elsewhere.at(name), folder.at(name)).unwrap();
-        let text = text_of(5, 2, &LISTING);
+        let text = text_of((5, 2), &LISTING);
         assert_eq!(run("enter", &folder, text.as_bytes()), "circuits: 4\n");
         assert!(elsewhere.entries() == before, "{name} was followed");
-        assert!(folder.entries() == files_of(5, 2, &LISTING), "{name}");
+        assert!(folder.entries() == files_of((5, 2), &LISTING), "{name}");
     }
 }
 
@@ -143,7 +168,7 @@ const AT_OLD_LINE: [(&str, Puts); 5] = [
 
 #[test]
 fn what_stands_at_the_name_of_the_old_line_goes() {
-    let text = text_of(5, 2, &LISTING);
+    let text = text_of((5, 2), &LISTING);
     for (what, puts) in AT_OLD_LINE {
         for folder in [Folder::new(), with_old()] {
             let elsewhere = Folder::with(&[("kept", b"as it was")]);
@@ -151,7 +176,7 @@ fn what_stands_at_the_name_of_the_old_line_goes() {
             puts(&folder.at(OLD_LINE), &elsewhere.at("kept"));
             assert_eq!(run("enter", &folder, text.as_bytes()), "circuits: 4\n");
             assert!(elsewhere.entries() == before, "{what} was followed");
-            assert!(folder.entries() == files_of(5, 2, &LISTING), "{what}");
+            assert!(folder.entries() == files_of((5, 2), &LISTING), "{what}");
         }
     }
 }
@@ -160,14 +185,14 @@ fn what_stands_at_the_name_of_the_old_line_goes() {
 fn a_hard_link_to_the_line_at_the_name_of_the_old_line_goes() {
     let folder = with_old();
     fs::hard_link(folder.at("line.rec"), folder.at(OLD_LINE)).unwrap();
-    let text = text_of(5, 2, &LISTING);
+    let text = text_of((5, 2), &LISTING);
     assert_eq!(run("enter", &folder, text.as_bytes()), "circuits: 4\n");
-    assert!(folder.entries() == files_of(5, 2, &LISTING));
+    assert!(folder.entries() == files_of((5, 2), &LISTING));
 }
 
 #[test]
 fn a_failure_brings_the_line_back_whatever_stood_at_the_name_of_the_old_line() {
-    let text = text_of(5, 2, &LISTING);
+    let text = text_of((5, 2), &LISTING);
     let to_the_line: (&str, Puts) = ("a hard link to the line", |at, _| {
         fs::hard_link(at.with_file_name("line.rec"), at).unwrap();
     });
@@ -186,14 +211,14 @@ fn a_failure_brings_the_line_back_whatever_stood_at_the_name_of_the_old_line() {
 
 #[test]
 fn a_folder_at_the_name_of_the_old_line() {
-    let text = text_of(5, 2, &LISTING);
+    let text = text_of((5, 2), &LISTING);
     for inner in ["", "/inner"] {
         let folder = with_old();
         folder.put_folder(&format!("{OLD_LINE}{inner}"));
         let before = folder.entries();
         let out = run("enter", &folder, text.as_bytes());
         if out == "circuits: 4\n" {
-            assert!(folder.entries() == files_of(5, 2, &LISTING));
+            assert!(folder.entries() == files_of((5, 2), &LISTING));
         } else {
             assert_eq!(out, NOT_REPLACED);
             let refused = run("sheet", &folder, b"") == "R 11 0\n";
@@ -204,7 +229,7 @@ fn a_folder_at_the_name_of_the_old_line() {
 
 #[test]
 fn a_folder_in_place_of_the_circuits() {
-    let text = text_of(5, 2, &LISTING);
+    let text = text_of((5, 2), &LISTING);
     let folder = Folder::with(&[("line.rec", &[9, 0, 3, 0])]);
     folder.put_folder("circuits.rec/inner");
     let before = folder.entries();
@@ -214,7 +239,7 @@ fn a_folder_in_place_of_the_circuits() {
 
 #[test]
 fn a_folder_in_place_of_a_draft() {
-    let text = text_of(5, 2, &LISTING);
+    let text = text_of((5, 2), &LISTING);
     for draft in DRAFTS {
         let folder = with_old();
         folder.put_folder(draft);
@@ -226,7 +251,7 @@ fn a_folder_in_place_of_a_draft() {
 
 #[test]
 fn a_folder_that_may_not_be_written() {
-    let text = text_of(5, 2, &LISTING);
+    let text = text_of((5, 2), &LISTING);
     for folder in [Folder::new(), with_old()] {
         folder.allow("", 0o555);
         let before = folder.entries();
@@ -249,7 +274,7 @@ fn enter_with_little_room(before: &str, folder: &Folder, text: &str) -> String {
 
 #[test]
 fn a_disk_that_is_full() {
-    let text = text_of(1, 40, &on_link_1(2048));
+    let text = text_of((1, 40), &on_link_1(2048));
     let folder = with_old();
     let before = folder.entries();
     let out = enter_with_little_room("trap '' XFSZ;", &folder, &text);
@@ -259,7 +284,7 @@ fn a_disk_that_is_full() {
 
 #[test]
 fn an_end_in_the_middle_leaves_the_old_pair() {
-    let text = text_of(1, 40, &on_link_1(2048));
+    let text = text_of((1, 40), &on_link_1(2048));
     let folder = with_old();
     let before = folder.entries();
     assert_eq!(enter_with_little_room("", &folder, &text), "");
@@ -268,7 +293,7 @@ fn an_end_in_the_middle_leaves_the_old_pair() {
     }
     assert_same(
         &run("sheet", &folder, b""),
-        &sheet_of(9, 3, &encode(&[(77, 8, 9)])),
+        &sheet_of((9, 3), &encode(&[(77, 8, 9)])),
     );
 }
 

@@ -87,17 +87,17 @@ fn ended_at_each_call(ready: impl Fn(&Folder)) {
         return;
     }
     let old = encode(&[(77, 8, 9)]);
-    let (text, new) = (text_of(5, 2, &LISTING), encode(&LISTING));
-    let just_new = Folder::with_records(5, 2, &new).entries();
+    let (text, new) = (text_of((5, 2, 2), &LISTING), encode(&LISTING));
+    let just_new = Folder::with_records((5, 2, 2), &new).entries();
     let sheets = [
-        sheet_of(9, 3, &old),
+        sheet_of((9, 3), &old),
         "R 11 0\n".to_owned(),
-        sheet_of(5, 2, &new),
+        sheet_of((5, 2, 2), &new),
     ];
     // Which of the three a folder has, from the first call to the last.
     let mut met = Vec::new();
     for calls in 0.. {
-        let folder = Folder::with_records(9, 3, &old);
+        let folder = Folder::with_records((9, 3), &old);
         ready(&folder);
         let ended = enter_until(calls, &folder, &text);
         let sheet = run("sheet", &folder, b"");

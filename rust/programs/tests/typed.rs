@@ -2,24 +2,29 @@
 use inputs::{encode, Circuit, Family, Numbers, Rng};
 use programs::texts::{right_texts, wrong_texts, LISTING, MOST_BYTES};
 use programs::{
-    assert_same, random_line, run, run_without_input, sheet_of, text_of, Folder, UNREAD_INPUT,
+    assert_same, random_line, run, run_without_input, sheet_of, text_of, Folder, Line, UNREAD_INPUT,
 };
 
-/// What is wrong, by refusal number.
-const FAULTS: [(&str, &str); 5] = [
-    ("R 3 ", "not 1 to 512 links"),
-    ("R 4 ", "not 1 to 40 wavelengths"),
-    ("R 5 ", "circuit number 0"),
-    ("R 6 ", "an end that is not on the line"),
-    ("R 7 ", "a circuit number that stands twice"),
-];
+/// What is wrong, by refusal number, on a line.
+fn fault(number: &str, line: Line) -> &'static str {
+    match (number, line.grid_meant()) {
+        ("3", _) => "not 1 to 512 links",
+        ("12", _) => "a grid that is neither 1 nor 2",
+        ("4", 1) => "not 1 to 40 wavelengths",
+        ("4", 2) => "not 1 to 80 wavelengths",
+        ("5", _) => "circuit number 0",
+        ("6", _) => "an end that is not on the line",
+        ("7", _) => "a circuit number that stands twice",
+        refused => panic!("{refused:?}"),
+    }
+}
 
 /// The program prints this for a text, whatever stands in its folder, and changes nothing there.
 #[track_caller]
 fn prints(text: &[u8], expected: &str) {
     for folder in [
         Folder::new(),
-        Folder::with_records(9, 3, &encode(&[(77, 8, 9)])),
+        Folder::with_records((9, 3), &encode(&[(77, 8, 9)])),
     ] {
         let before = folder.entries();
         assert_same(&run("typed", &folder, text), expected);
@@ -27,7 +32,7 @@ fn prints(text: &[u8], expected: &str) {
     }
 }
 
-/// The numbers of the lines that count: that of `n w`, then those of the circuits.
+/// The numbers of the lines that count: that of the header, then those of the circuits.
 fn lines_that_count(text: &[u8]) -> Vec<usize> {
     let counts = |line: &[u8]| {
         let first = line.iter().find(|byte| !b" \t\r".contains(byte));
@@ -41,27 +46,21 @@ fn lines_that_count(text: &[u8]) -> Vec<usize> {
 }
 
 /// The sheet of a text that says this, or its refusal with the line of the text.
-fn expected(text: &[u8], n: u16, w: u16, circuits: &[Circuit]) -> String {
-    let sheet = sheet_of(n, w, &encode(circuits));
-    let Some((_, fault)) = FAULTS.iter().find(|(start, _)| sheet.starts_with(start)) else {
-        assert!(!sheet.starts_with('R'), "{sheet}");
+fn expected(text: &[u8], line: Line, circuits: &[Circuit]) -> String {
+    let sheet = sheet_of(line, &encode(circuits));
+    let Some(refused) = sheet.strip_prefix("R ") else {
         return sheet;
     };
-    let place: usize = sheet
-        .trim_end()
-        .rsplit(' ')
-        .next()
-        .unwrap()
-        .parse()
-        .unwrap();
+    let (number, place) = refused.trim_end().split_once(' ').unwrap();
     // The header is the line before the first circuit's, and its refusals have place 0.
-    format!("{sheet}line {}: {fault}\n", lines_that_count(text)[place])
+    let at = lines_that_count(text)[place.parse::<usize>().unwrap()];
+    format!("{sheet}line {at}: {}\n", fault(number, line))
 }
 
 #[test]
 fn right_texts_are_planned_or_refused() {
-    for (text, n, w, circuits) in right_texts() {
-        prints(&text, &expected(&text, n, w, &circuits));
+    for (text, line, circuits) in right_texts() {
+        prints(&text, &expected(&text, line, &circuits));
     }
 }
 
@@ -76,7 +75,10 @@ fn wrong_texts_are_told() {
 fn the_listing() {
     let sheet = "F 1 1 5 2\nF 2 2 5 2\n\
         C 10 1 2 192200\nC 20 2 1 192100\nC 30 1 1 192100\nC 40 1 2 192200\nT 2 9 6\n";
-    prints(text_of(5, 2, &LISTING).as_bytes(), sheet);
+    prints(text_of((5, 2), &LISTING).as_bytes(), sheet);
+    prints(text_of((5, 2, 1), &LISTING).as_bytes(), sheet);
+    let fifty = sheet.replace("192200", "192150");
+    prints(text_of((5, 2, 2), &LISTING).as_bytes(), &fifty);
     prints(b"# no circuits\n5 2", "T 0 0 0\n");
 }
 
@@ -96,9 +98,17 @@ fn each_refusal_and_its_line() {
         let text = format!("{n} 41\n# x\n\n0 0 0\n");
         refuses(&text, "R 3 0", 1, "not 1 to 512 links");
     }
-    for w in ["0", "41", "65535"] {
-        let text = format!("512 {w}\n\n# x\n0 0 0\n");
+    for grid in ["0", "3", "65535"] {
+        let text = format!("5 81 {grid}\n# x\n0 0 0\n");
+        refuses(&text, "R 12 0", 1, "a grid that is neither 1 nor 2");
+    }
+    for header in ["512 0", "512 41", "512 65535", "5 41 1", "5 80 1"] {
+        let text = format!("{header}\n\n# x\n0 0 0\n");
         refuses(&text, "R 4 0", 1, "not 1 to 40 wavelengths");
+    }
+    for header in ["512 0 2", "5 81 2", "5 65535 2"] {
+        let text = format!("{header}\n\n# x\n0 0 0\n");
+        refuses(&text, "R 4 0", 1, "not 1 to 80 wavelengths");
     }
     let text = "5 2\n# x\n10 0 9\n\n0 1 3\n10 1 1\n0 1 1";
     refuses(text, "R 5 2", 5, "circuit number 0");
@@ -111,7 +121,12 @@ fn each_refusal_and_its_line() {
 }
 
 #[test]
-fn n_and_w_are_told_apart() {
+fn n_w_and_grid_are_told_apart() {
+    prints(b"5 80 2", "T 0 0 0\n");
+    prints(
+        b"2 5 80",
+        "R 12 0\nline 1: a grid that is neither 1 nor 2\n",
+    );
     prints(b"41 40", "T 0 0 0\n");
     prints(b"40 41", "R 4 0\nline 1: not 1 to 40 wavelengths\n");
     prints(
@@ -122,15 +137,15 @@ fn n_and_w_are_told_apart() {
 
 #[test]
 fn sheets_at_the_limits() {
-    for w in [1, 40] {
+    for (w, grid) in [(1, 1), (40, 1), (80, 2)] {
         for family in [Family::Random, Family::Full] {
             let mut list = family.circuits(2048, 512, Numbers::Shuffled, &mut Rng::new(w.into()));
             for (i, circuit) in list.iter_mut().enumerate() {
                 circuit.0 = u32::MAX - i as u32;
             }
-            let mut text = text_of(512, w, &list).into_bytes();
+            let mut text = text_of((512, w, grid), &list).into_bytes();
             text.resize(MOST_BYTES, b'\n');
-            prints(&text, &sheet_of(512, w, &encode(&list)));
+            prints(&text, &sheet_of((512, w, grid), &encode(&list)));
         }
     }
 }
@@ -147,15 +162,15 @@ fn with_idle_lines(text: &str, rng: &mut Rng) -> String {
 #[test]
 fn random_texts() {
     for seed in 0..200 {
-        let (n, w, circuits) = random_line(seed);
-        let text = with_idle_lines(&text_of(n, w, &circuits), &mut Rng::new(seed));
-        prints(text.as_bytes(), &expected(text.as_bytes(), n, w, &circuits));
+        let (line, circuits) = random_line(seed);
+        let text = with_idle_lines(&text_of(line, &circuits), &mut Rng::new(seed));
+        prints(text.as_bytes(), &expected(text.as_bytes(), line, &circuits));
     }
 }
 
 #[test]
 fn standard_input_that_cannot_be_read() {
-    let folder = Folder::with_records(9, 3, &encode(&[(77, 8, 9)]));
+    let folder = Folder::with_records((9, 3), &encode(&[(77, 8, 9)]));
     let before = folder.entries();
     assert_eq!(run_without_input("typed", &folder), UNREAD_INPUT);
     assert!(folder.entries() == before, "the folder has changed");

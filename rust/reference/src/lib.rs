@@ -3,6 +3,7 @@
 //! It follows the papers sentence by sentence and does not try to be fast.
 #![deny(missing_docs)]
 
+mod grid;
 mod lit;
 mod paired;
 mod records;
@@ -10,13 +11,25 @@ mod sheet;
 mod slips;
 mod table;
 
+pub use grid::frequency;
 pub use lit::lit;
 pub use paired::paired;
 pub use records::Circuit;
 #[doc(hidden)]
-pub use slips::{Slip, BASE_SLIPS, LIT_SLIPS};
+pub use slips::{Slip, BASE_SLIPS, GRID_SLIPS, LIT_SLIPS};
 
 use std::ops::RangeInclusive;
+
+/// What is said of the line; each number may be wrong.
+#[derive(Clone, Copy, Debug, PartialEq, Eq)]
+pub struct Line {
+    /// How many links it has.
+    pub n: usize,
+    /// How many wavelengths a fibre carries.
+    pub w: usize,
+    /// The grid.
+    pub grid: usize,
+}
 
 /// How many fibres, their total length, and the floor.
 #[derive(Clone, Copy, Debug, PartialEq, Eq)]
@@ -109,14 +122,13 @@ fn runs(n: usize, p: impl Fn(usize) -> bool) -> Vec<RangeInclusive<usize>> {
 ///
 /// The first refusal of the table that applies; then no byte is changed.
 pub fn plan(
-    n: usize,
-    w: usize,
+    line: Line,
     circuits: &[u8],
     fibres: &mut [u8],
     assignments: &mut [u8],
     work: &mut [u8],
 ) -> Result<Counts, Refused> {
-    plan_with(Slip::None, n, w, circuits, fibres, assignments, work)
+    plan_with(Slip::None, line, circuits, fibres, assignments, work)
 }
 
 /// The same with a mistake.
@@ -127,15 +139,15 @@ pub fn plan(
 #[doc(hidden)]
 pub fn plan_with(
     slip: Slip,
-    n: usize,
-    w: usize,
+    line: Line,
     circuits: &[u8],
     fibres: &mut [u8],
     assignments: &mut [u8],
     work: &mut [u8],
 ) -> Result<Counts, Refused> {
     let lengths = [fibres.len(), assignments.len(), work.len()];
-    let circuits = table::accepted(n, w, circuits, lengths, slip)?;
+    let circuits = table::accepted(line, circuits, lengths, slip)?;
+    let Line { n, w, .. } = line;
     let c = needs(n, w, &circuits, slip);
     let plan = lit(n, &circuits, &paired(n, w, &circuits, &c, slip), slip);
 

@@ -37,6 +37,10 @@ pub enum Slip {
     TwiceTheFloor,
     /// A circuit gets the lowest wavelength that is free on its new fibre.
     LowestWavelength,
+    /// Test 4 comes before test 12.
+    FourBeforeTwelve,
+    /// Both grids have the limit of grid 1.
+    OneLimit,
 }
 
 /// The mistakes with the base.
@@ -62,3 +66,6 @@ pub const LIT_SLIPS: [Slip; 8] = [
     Slip::TwiceTheFloor,
     Slip::LowestWavelength,
 ];
+
+/// The mistakes with R-5.
+pub const GRID_SLIPS: [Slip; 2] = [Slip::FourBeforeTwelve, Slip::OneLimit];

@@ -1,6 +1,9 @@
-//! The cases of 01 as R-1 answers them, a gap, many old pairs that become two fibres, and that mistakes show in them.
+//! The cases of 01 as R-1 answers them, a gap, many old pairs that become two fibres, the grids of R-5, and that mistakes
+//! show in them.
 use inputs::{encode, ladder, Circuit};
-use reference::{needs, paired, plan_with, Counts, Refused, Slip, LIT_SLIPS};
+use reference::{
+    frequency, needs, paired, plan_with, Counts, Line, Refused, Slip, GRID_SLIPS, LIT_SLIPS,
+};
 
 /// Fibre number and wavelength of a circuit.
 type Place = (u16, u16);
@@ -43,7 +46,8 @@ fn written(slip: Slip, n: usize, w: usize, circuits: &[Circuit]) -> Result<Writt
     let [fibres, assignments] = &mut lists;
     let mut work = vec![0xA5; 4 * n + 4 * m];
     let file = encode(circuits);
-    let counts = plan_with(slip, n, w, &file, fibres, assignments, &mut work)?;
+    let line = Line { n, w, grid: 1 };
+    let counts = plan_with(slip, line, &file, fibres, assignments, &mut work)?;
     let (records, behind) = fibres.split_at(8 * counts.fibres);
     assert!(behind.iter().all(|&byte| byte == 0xA5));
     Ok((
@@ -213,13 +217,72 @@ fn refusal_8_asks_8_bytes_a_circuit() {
     for (bytes, number) in [(31, Some(8)), (32, None), (0, Some(8)), (64, None)] {
         let answer = plan_with(
             Slip::None,
-            5,
-            2,
+            Line {
+                n: 5,
+                w: 2,
+                grid: 1,
+            },
             &file,
             &mut vec![0; bytes],
             &mut [0; 32],
             &mut [0; 36],
         );
         assert_eq!(answer.err().map(|refused| refused.number), number);
+    }
+}
+
+/// Links, wavelengths and grid of a line with no circuits, and its refusal, if any.
+const LINES: [([usize; 3], Option<u32>); 18] = [
+    ([1, 1, 1], None),
+    ([1, 40, 1], None),
+    ([1, 41, 1], Some(4)),
+    ([1, 80, 1], Some(4)),
+    ([1, 0, 1], Some(4)),
+    ([1, 1, 2], None),
+    ([1, 41, 2], None),
+    ([512, 80, 2], None),
+    ([1, 81, 2], Some(4)),
+    ([1, 0, 2], Some(4)),
+    ([1, 1, 0], Some(12)),
+    ([1, 1, 3], Some(12)),
+    ([1, 1, usize::MAX], Some(12)),
+    ([1, 0, 3], Some(12)),
+    ([1, 41, 0], Some(12)),
+    ([1, 81, 3], Some(12)),
+    ([0, 1, 3], Some(3)),
+    ([513, 0, 0], Some(3)),
+];
+
+/// The refusal of a line with no circuits, if any.
+fn refused(slip: Slip, [n, w, grid]: [usize; 3]) -> Option<u32> {
+    let line = Line { n, w, grid };
+    let answer = plan_with(slip, line, &[], &mut [], &mut [], &mut [0; 2048]);
+    answer.err().map(|refused| refused.number)
+}
+
+#[test]
+fn each_line_and_grid() {
+    for (line, number) in LINES {
+        assert_eq!(refused(Slip::None, line), number, "{line:?}");
+    }
+}
+
+#[test]
+fn each_mistake_with_r_5_shows_in_a_line() {
+    for slip in GRID_SLIPS {
+        let shows = LINES
+            .iter()
+            .any(|&(line, number)| refused(slip, line) != number);
+        assert!(shows, "{slip:?} shows in no line");
+    }
+}
+
+#[test]
+fn frequencies() {
+    for (v, ghz) in [(1, 192_100), (11, 193_100), (40, 196_000)] {
+        assert_eq!(frequency(1, v), ghz);
+    }
+    for (v, ghz) in [(1, 192_100), (2, 192_150), (21, 193_100), (80, 196_050)] {
+        assert_eq!(frequency(2, v), ghz);
     }
 }

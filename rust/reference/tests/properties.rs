@@ -151,10 +151,10 @@ fn small_lines() {
 
 #[test]
 fn middle_lines() {
-    hold(0..2_000, [100, 40, 120]);
+    hold(0..2_000, [100, 80, 120]);
 }
 
 #[test]
 fn large_lines() {
-    hold(0..20, [512, 40, 600]);
+    hold(0..20, [512, 80, 600]);
 }

@@ -74,6 +74,7 @@ fn repeated(circuits: &[Circuit]) -> Option<usize> {
 fn accepted(
     n: usize,
     w: usize,
+    grid: usize,
     file: &[u8],
     [fibres, assignments, work]: [usize; 3],
 ) -> Result<Vec<Circuit>, Refused> {
@@ -81,7 +82,9 @@ fn accepted(
     unless(file.len().is_multiple_of(8), 1)?;
     unless(m <= 2048, 2)?;
     unless((1..=512).contains(&n), 3)?;
-    unless((1..=40).contains(&w), 4)?;
+    unless(grid == 1 || grid == 2, 12)?;
+    let limit = if grid == 2 { 80 } else { 40 };
+    unless((1..=limit).contains(&w), 4)?;
     let records = file.chunks_exact(8).enumerate();
     let circuits: Vec<Circuit> = records.map(|(j, record)| read(j, record)).collect();
     unless_at(circuits.iter().position(|c| c.number == 0), 5)?;
@@ -261,13 +264,14 @@ fn write_fibres(list: &mut [u8], fibres: &[Fibre]) {
 pub fn plan(
     n: usize,
     w: usize,
+    grid: usize,
     file: &[u8],
     fibres: &mut [u8],
     assignments: &mut [u8],
     work: &mut [u8],
 ) -> Answer {
     let lengths = [fibres.len(), assignments.len(), work.len()];
-    let circuits = accepted(n, w, file, lengths)?;
+    let circuits = accepted(n, w, grid, file, lengths)?;
     let c = needs(n, w, &circuits);
     let top = c.iter().copied().max().unwrap_or(0);
     let rows = fill_sheet(w, &circuits, &c, top);

@@ -16,7 +16,7 @@ struct PlanAnswer {
     floor: usize,
 }
 
-/// The function of an archive.
+/// The function of an archive. The archive before has no grid.
 type Planner = unsafe extern "C" fn(
     links: usize,
     wavelengths: usize,

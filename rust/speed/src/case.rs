@@ -5,6 +5,9 @@ use crate::clock;
 use inputs::{encode, Family, Numbers, Rng};
 use std::hint::black_box;
 
+/// The grid of every case: the archive before has no other.
+const GRID: usize = 1;
+
 /// A file of circuits, and the line and the fibres that it is for.
 #[derive(Clone, Copy)]
 pub struct Case {
@@ -143,6 +146,7 @@ impl Case {
         fibre_plan::plan_bytes(
             self.links,
             self.wavelengths,
+            GRID,
             file,
             fibres,
             assignments,
@@ -161,6 +165,7 @@ impl Case {
         baseline::plan(
             self.links,
             self.wavelengths,
+            GRID,
             file,
             fibres,
             assignments,

@@ -18,7 +18,7 @@ read-circuits-requires c κs =
     let args = c .before .before .before .before .before .before .before .before .args in
     let find-header = c .before .before .before .before .find-header in
     let found2 = c .before .before .found2 in
-    let b = told-within (args .text .now) (find-header .result) _ _ _ _ (find-header .ensures) (found2 .given .1) in (search needs, b .0, b .1)
+    let b = told-within (args .text .now) (find-header .result) _ _ _ (find-header .ensures) (found2 .given .1) in (search needs, b .0, b .1)
 
 returns-2 : tie.Need-returns-2
 returns-2 c =
@@ -34,7 +34,7 @@ returns-3 c =
     let found2 = c .before .before .before .before .before .before .before .before .found2 in
     let read-circuits = c .before .before .before .before .before .read-circuits in
     let rest = c .before .rest in
-    right-read (args .text .now) (length (args .out .now) / 8) (args .out .now) _ (find-header .result) _ _ _ _ (read-circuits .result) _ (omega arith) (find-header .ensures) (found2 .given .1) (read-circuits .ensures .0) (read-circuits .ensures .1) (sym (ap (answerFrom _ _) (rest .given .1)))
+    right-read (args .text .now) (length (args .out .now) / 8) (args .out .now) _ (find-header .result) _ _ _ (read-circuits .result) _ (omega arith) (find-header .ensures) (found2 .given .1) (read-circuits .ensures .0) (read-circuits .ensures .1) (sym (ap (answerFrom _) (rest .given .1)))
 
 returns-4 : tie.Need-returns-4
 returns-4 c =
@@ -43,7 +43,7 @@ returns-4 c =
     let found2 = c .before .before .before .before .before .before .before .before .found2 in
     let read-circuits = c .before .before .before .before .before .read-circuits in
     let rest2 = c .before .rest2 in
-    right-read (args .text .now) (length (args .out .now) / 8) (args .out .now) _ (find-header .result) _ _ _ _ (read-circuits .result) _ (omega arith) (find-header .ensures) (found2 .given .1) (read-circuits .ensures .0) (read-circuits .ensures .1) (sym (ap (answerFrom _ _) (rest2 .given .1)))
+    right-read (args .text .now) (length (args .out .now) / 8) (args .out .now) _ (find-header .result) _ _ _ (read-circuits .result) _ (omega arith) (find-header .ensures) (found2 .given .1) (read-circuits .ensures .0) (read-circuits .ensures .1) (sym (ap (answerFrom _) (rest2 .given .1)))
 
 pub enter-spec : {M : Type 1} → statement M
 enter-spec =

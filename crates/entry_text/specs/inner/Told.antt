@@ -8,12 +8,13 @@ use Rattle.records.specs.Records.{fileOf}
 use Rattle.records.specs.declared.Circuit.{Circuit}
 use Rattle.entry_text.specs.declared.words.Numeral.{Numeral}
 use Rattle.entry_text.specs.declared.words.Numeral.the-variants.{Value, Nothing}
-use Rattle.entry_text.specs.declared.lines.Sizes.{Sizes}
-use Rattle.entry_text.specs.declared.lines.Sizes.the-variants.{Both, Neither}
+use Rattle.entry_text.specs.declared.Header.{Header}
+use Rattle.entry_text.specs.declared.lines.Heading.{Heading}
+use Rattle.entry_text.specs.declared.lines.Heading.the-variants.{Given, Lacking}
 use Rattle.entry_text.specs.declared.lines.CircuitLine.{CircuitLine}
 use Rattle.entry_text.specs.declared.lines.CircuitLine.the-variants.{Says, Unclear}
 use Rattle.entry_text.specs.declared.lines.Opening.{Opening}
-use Rattle.entry_text.specs.declared.lines.Opening.the-variants.{Header, Missing}
+use Rattle.entry_text.specs.declared.lines.Opening.the-variants.{Headed, Missing}
 use Rattle.entry_text.specs.declared.Ending.{Ending}
 use Rattle.entry_text.specs.declared.Ending.the-variants.{Whole, Stopped}
 use Rattle.entry_text.specs.Entries as text
@@ -23,10 +24,10 @@ abbrev pub numeralOf : Option ℕ → Numeral
 numeralOf none = Nothing
 numeralOf (some v) = Value v
 
--- n and w, or none
-abbrev pub sizesOf : Option text.Header → Sizes
-sizesOf none = Neither
-sizesOf (some h) = Both (h .n) (h .w)
+-- a header, or none
+abbrev pub headingOf : Option Header → Heading
+headingOf none = Lacking
+headingOf (some h) = Given h
 
 -- a circuit, or none
 abbrev pub circuitLineOf : Option Circuit → CircuitLine
@@ -36,7 +37,7 @@ circuitLineOf (some c) = Says c
 -- the header with the next line's start and number, or the line that should have been it
 abbrev pub opening : text.Found → Opening
 opening (text.headless l) = Missing l
-opening (text.headed h i l) = Header (h .n) (h .w) i l
+opening (text.headed h i l) = Headed h i l
 
 -- how many circuits, or where reading stopped
 abbrev pub endingBy : ℕ → Option text.Stop → Ending

@@ -17,12 +17,12 @@ write-sheet-requires c κs =
 returns : tie.Need-returns
 returns c =
     let x = c .before .before .before .before .before .before .before .before .before .before .args in
-    of-case (x .a) _ (x .m) _ (x .fibres .now) (x .assigns .now) (x .out .now) _ (c .before .before .before .before .before .a .given .1) (c .before .before .write-sheet .ensures)
+    of-case (x .grid) (x .a) _ (x .m) _ (x .fibres .now) (x .assigns .now) (x .out .now) _ (c .before .before .before .before .before .a .given .1) (c .before .before .write-sheet .ensures)
 
 returns-2 : tie.Need-returns-2
 returns-2 c =
     let x = c .before .before .before .before .before .before .before .before .before .before .args in
-    of-case (x .a) _ (x .m) _ (x .fibres .now) (x .assigns .now) (x .out .now) _ (c .before .before .before .before .before .a2 .given .1) (c .before .before .write-refusal .ensures)
+    of-case (x .grid) (x .a) _ (x .m) _ (x .fibres .now) (x .assigns .now) (x .out .now) _ (c .before .before .before .before .before .a2 .given .1) (c .before .before .write-refusal .ensures)
 
 pub write-answer-spec : {M : Type 1} → statement M
 write-answer-spec =

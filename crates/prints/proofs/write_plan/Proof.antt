@@ -23,7 +23,7 @@ returns c =
     let p = c .before .before .before .before .before .before .before .before .before .before .before .before .plan in
     let t = c .before .before .write-answer in
     let made = sheet-made (x .line) (x .circuits .now) (areas (x .fibres .now) (x .assigns .now) (x .work .now)) (start .pre .0) _ (p .result) (p .kept .1 .1 .0) (p .kept .1 .1 .1 .0) (p .ensures) in
-    subst (λ (text : List ℕ). Wrote text (t .result) (x .out .now) (t .last .1 .1 .1 .1 .0)) made (t .ensures)
+    subst (λ (text : List ℕ). Wrote text (t .result) (x .out .now) (t .last .1 .1 .1 .1 .1 .0)) made (t .ensures)
 
 pub write-plan-spec : {M : Type 1} → statement M
 write-plan-spec =

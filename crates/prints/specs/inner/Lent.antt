@@ -7,10 +7,10 @@ use Rattle.planner.specs.declared.Answer.{Answer}
 use Rattle.planner.specs.declared.Answer.the-variants.{Planned, Refused}
 use Rattle.sheet_text.specs.Text.{sheetText, refusalLine}
 
--- the text of an answer, with m circuits and the two lists as the planner left them
-abbrev pub answerText : Answer → ℕ → List ℕ → List ℕ → List ℕ
-answerText (Planned counts) m fibres assigns = sheetText (counts .fibres) m fibres assigns (counts .total) (counts .floor)
-answerText (Refused number place) m fibres assigns = refusalLine (record { number = number; place = place })
+-- the text of an answer on a grid, with m circuits and the two lists as the planner left them
+abbrev pub answerText : ℕ → Answer → ℕ → List ℕ → List ℕ → List ℕ
+answerText grid (Planned counts) m fibres assigns = sheetText grid (counts .fibres) m fibres assigns (counts .total) (counts .floor)
+answerText grid (Refused number place) m fibres assigns = refusalLine (record { number = number; place = place })
 
 -- the lists hold what a planned answer counts, which is no more than the limits allow
 abbrev pub Held : Answer → ℕ → List ℕ → List ℕ → Type 0

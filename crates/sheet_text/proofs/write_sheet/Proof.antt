@@ -24,7 +24,7 @@ returns c = let a = c .before .before .before .before .before .before .before .b
     let g = c .before .before .before .before .before .before .write-circuits in
     let t = c .before .before .write-three in
     let fs = fibreLines (a .k) (a .fibres .now) in
-    let cs = circuitLines (a .m) (a .assigns .now) in
+    let cs = circuitLines (a .grid) (a .m) (a .assigns .now) in
     let w = then-part fs cs (a .out .now) _ _ (f .result) (g .result) (f .ensures .0, f .ensures .1) (g .ensures .0, g .ensures .1) in
     then-part (fs ++ cs) (totalLine (a .k) (a .total) (a .floor)) (a .out .now) _ _ (f .result + g .result) (t .result) w (t .ensures .0, t .ensures .1)
 

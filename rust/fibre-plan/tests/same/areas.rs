@@ -1,16 +1,15 @@
 //! Lent areas full of noise, and what a planner leaves in them.
 use inputs::Rng;
-use reference::Slip;
+use reference::{Line, Slip};
 use std::ops::Range;
 
 /// The least bytes that stand before and behind each lent area, which nobody may touch.
 const GUARD: usize = 16;
 
-/// One call: its numbers, its circuit file, and the lengths of the three areas.
+/// One call: its line, its circuit file, and the lengths of the three areas.
 #[derive(Clone, Debug)]
 pub struct Input {
-    pub links: usize,
-    pub wavelengths: usize,
+    pub line: Line,
     pub circuits: Vec<u8>,
     pub lengths: [usize; 3],
 }
@@ -26,31 +25,37 @@ pub struct Seen {
 }
 
 impl Input {
-    /// A call with areas of just the lengths that are asked for.
-    pub fn new(links: usize, wavelengths: usize, circuits: Vec<u8>) -> Self {
+    /// A call with these links, wavelengths and grid, and areas of just the lengths that are asked for.
+    pub fn new([n, w, grid]: [usize; 3], circuits: Vec<u8>) -> Self {
         let many = circuits.len() / 8;
         let lengths = [
             fibre_plan::fibre_bytes(many),
             fibre_plan::assignment_bytes(many),
-            fibre_plan::work_bytes(links.min(600), many),
+            fibre_plan::work_bytes(n.min(600), many),
         ];
         Self {
-            links,
-            wavelengths,
+            line: Line { n, w, grid },
             circuits,
             lengths,
         }
     }
 
+    /// The same call on another grid.
+    pub fn on_grid(&self, grid: usize) -> Self {
+        let mut input = self.clone();
+        input.line.grid = grid;
+        input
+    }
+
     /// Where each lent area stands between its guards: it may start at any address.
     pub fn lent(&self) -> [Range<usize>; 3] {
-        let from = GUARD + (self.links ^ (self.circuits.len() / 8)) % 8;
+        let from = GUARD + (self.line.n ^ (self.circuits.len() / 8)) % 8;
         self.lengths.map(|length| from..from + length)
     }
 
     /// The areas before the call, guards included: noise that depends only on the input.
     pub fn noise(&self) -> [Vec<u8>; 3] {
-        let mut rng = Rng::new((self.links ^ self.circuits.len()) as u64);
+        let mut rng = Rng::new((self.line.n ^ self.circuits.len()) as u64);
         self.lent().map(|lent| {
             let mut area = vec![0; lent.end + GUARD];
             rng.fill(&mut area);
@@ -71,8 +76,9 @@ impl Input {
 
     /// What the library answers and leaves.
     pub fn by_library(&self) -> Seen {
+        let Line { n, w, grid } = self.line;
         self.seen(|file, [f, a, k]| {
-            fibre_plan::plan_bytes(self.links, self.wavelengths, file, f, a, k)
+            fibre_plan::plan_bytes(n, w, grid, file, f, a, k)
                 .map(|c| [c.fibres, c.total, c.floor])
                 .map_err(|r| (r.number(), r.place()))
         })
@@ -81,7 +87,7 @@ impl Input {
     /// What the reference answers and leaves, with a mistake or none.
     pub fn by_reference(&self, slip: Slip) -> Seen {
         self.seen(|file, [f, a, k]| {
-            reference::plan_with(slip, self.links, self.wavelengths, file, f, a, k)
+            reference::plan_with(slip, self.line, file, f, a, k)
                 .map(|c| [c.fibres, c.total, c.floor])
                 .map_err(|r| (r.number, r.place))
         })

@@ -1,6 +1,7 @@
 //! Inputs: each is made from its number alone, so that a failure can be had again.
 use crate::areas::Input;
-use inputs::{encode, Circuit, Numbers, Rng, FAMILIES};
+use inputs::{encode, grid_and_wavelengths, Circuit, Numbers, Rng, FAMILIES};
+use reference::Line;
 
 /// The most links, wavelengths and circuits of an input.
 #[derive(Clone, Copy)]
@@ -17,12 +18,12 @@ pub const SMALL: Size = Size {
 };
 pub const MIDDLE: Size = Size {
     links: 100,
-    wavelengths: 40,
+    wavelengths: 80,
     circuits: 120,
 };
 pub const LARGE: Size = Size {
     links: 512,
-    wavelengths: 40,
+    wavelengths: 80,
     circuits: 2048,
 };
 
@@ -42,34 +43,61 @@ pub fn circuits(links: usize, many: usize, rng: &mut Rng) -> Vec<Circuit> {
     list
 }
 
-/// An input that is accepted. Half of them are lent more than they need.
+/// An input that is accepted, on either grid. Half of them are lent more than they need.
 pub fn accepted(size: Size, rng: &mut Rng) -> Input {
     let links = rng.within(1, size.links);
-    let wavelengths = rng.within(1, size.wavelengths);
+    let (grid, wavelengths) = grid_and_wavelengths(size.wavelengths, rng);
     let many = rng.within(0, size.circuits);
-    let mut input = Input::new(links, wavelengths, encode(&circuits(links, many, rng)));
+    let file = encode(&circuits(links, many, rng));
+    let mut input = Input::new([links, wavelengths, grid], file);
     if rng.once_in(2) {
         input.lengths = input.lengths.map(|length| length + rng.within(0, 40));
     }
     input
 }
 
-/// An input at the limits: 512 links and 2,048 circuits.
+/// An input at the limits: 512 links and 2,048 circuits, on either grid.
 pub fn full_size(rng: &mut Rng) -> Input {
     let file = encode(&circuits(LARGE.links, LARGE.circuits, rng));
-    Input::new(LARGE.links, rng.within(1, LARGE.wavelengths), file)
+    let (grid, wavelengths) = grid_and_wavelengths(LARGE.wavelengths, rng);
+    Input::new([LARGE.links, wavelengths, grid], file)
 }
 
-/// Numbers that no line and no fibre has; some are small if they are cut to 8, 16 or 32 bits.
-const BAD: [usize; 7] = [
+/// Numbers of links that no line has; some are small if they are cut to 8, 16 or 32 bits.
+const BAD_LINKS: [usize; 6] = [0, 513, 256 + 513, 65_536 + 3, (1 << 32) + 3, usize::MAX];
+
+/// Numbers of wavelengths that no fibre of grid 1 has; fibres of grid 2 may have the first two.
+const BAD_WAVELENGTHS: [usize; 8] = [
+    41,
+    80,
+    81,
     0,
-    513,
-    41 + 512,
-    256 + 513,
+    256 + 3,
     65_536 + 3,
     (1 << 32) + 3,
     usize::MAX,
 ];
+
+/// Numbers that no grid has; some are 1 or 2 if they are cut to 8, 16 or 32 bits.
+const BAD_GRIDS: [usize; 8] = [
+    0,
+    3,
+    50,
+    256 + 1,
+    256 + 2,
+    65_536 + 1,
+    (1 << 32) + 2,
+    usize::MAX,
+];
+
+/// Spoils one number of the line.
+fn spoil_line(line: &mut Line, rng: &mut Rng) {
+    match rng.within(0, 2) {
+        0 => line.n = BAD_LINKS[rng.within(0, 5)],
+        1 => line.w = BAD_WAVELENGTHS[rng.within(0, 7)],
+        _ => line.grid = BAD_GRIDS[rng.within(0, 7)],
+    }
+}
 
 /// Writes a two-byte field of a record.
 fn set_half(file: &mut [u8], at: usize, x: usize) {
@@ -84,7 +112,7 @@ fn spoil_record(input: &mut Input, rng: &mut Rng) {
     }
     let at = 8 * rng.within(0, many - 1);
     let other = 8 * rng.within(0, many - 1);
-    let links = input.links;
+    let links = input.line.n;
     let file = &mut input.circuits;
     match rng.within(0, 5) {
         0 => file[at..at + 4].fill(0),
@@ -114,8 +142,7 @@ pub fn damaged(rng: &mut Rng) -> Input {
     let mut input = accepted(SMALL, rng);
     for _ in 0..rng.within(1, 4) {
         match rng.within(0, 9) {
-            0 => input.links = BAD[rng.within(0, 6)],
-            1 => input.wavelengths = BAD[rng.within(0, 6)],
+            0 | 1 => spoil_line(&mut input.line, rng),
             2..=4 => spoil_length(&mut input, rng),
             _ => spoil_record(&mut input, rng),
         }
@@ -127,7 +154,7 @@ pub fn damaged(rng: &mut Rng) -> Input {
 pub fn repeated(numbers: Numbers, at: usize, distance: usize) -> Input {
     let number = |i: usize| numbers.of(if i == at { at - distance } else { i });
     let list: Vec<Circuit> = (0..LARGE.circuits).map(|i| (number(i), 1, 1)).collect();
-    Input::new(1, 1, encode(&list))
+    Input::new([1, 1, 1], encode(&list))
 }
 
 /// Circuit numbers of the small inputs: none, and an order that is another byte by byte.

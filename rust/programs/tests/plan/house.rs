@@ -117,7 +117,7 @@ impl House {
         self.0.put(&format!("{name}/line.rec"), &[5, 0, 2, 0]);
         self.0
             .put(&format!("{name}/circuits.rec"), &encode(&LISTING));
-        sheet_of(5, 2, &encode(&LISTING))
+        sheet_of((5, 2), &encode(&LISTING))
     }
 }
 

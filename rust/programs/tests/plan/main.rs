@@ -37,7 +37,7 @@ fn the_samples() {
         let folder = repository().join(sample);
         let line = fs::read(folder.join("line.rec")).unwrap();
         let [n, w] = [0, 2].map(|at| u16::from_le_bytes([line[at], line[at + 1]]));
-        let sheet = sheet_of(n, w, &fs::read(folder.join("circuits.rec")).unwrap());
+        let sheet = sheet_of((n, w), &fs::read(folder.join("circuits.rec")).unwrap());
         printed(house.run(&[folder.to_str().unwrap()]), &sheet, 0);
         let text = folder.join("circuits.txt");
         printed(house.run(&[text.to_str().unwrap()]), &sheet, 0);
@@ -46,28 +46,49 @@ fn the_samples() {
 }
 
 #[test]
+fn grid_2() {
+    let house = House::new();
+    let sheet = sheet_of((5, 2, 2), &encode(&LISTING));
+    house.listing("records");
+    house.0.put("records/line.rec", &[5, 0, 2, 0, 2, 0]);
+    house.0.put("text", text_of((5, 2, 2), &LISTING).as_bytes());
+    for path in ["records", "text"] {
+        printed(house.run(&[path]), &sheet, 0);
+    }
+}
+
+#[test]
 fn a_refused_folder() {
     let house = House::new();
     house.0.put_folder("empty");
     printed(house.run(&["empty"]), "R 11 0\n", 1);
     house.listing("bad");
-    house.0.put("bad/line.rec", &[5, 0, 41, 0]);
-    printed(house.run(&["bad"]), "R 4 0\n", 1);
+    for (line, refusal) in [
+        (&[5, 0, 41, 0][..], "R 4 0\n"),
+        (&[5, 0, 81, 0, 2, 0], "R 4 0\n"),
+        (&[5, 0, 2, 0, 3, 0], "R 12 0\n"),
+        (&[5, 0, 2, 0, 2], "R 11 0\n"),
+    ] {
+        house.0.put("bad/line.rec", line);
+        printed(house.run(&["bad"]), refusal, 1);
+    }
 }
 
 #[test]
 fn a_refused_text() {
     let house = House::new();
-    house.0.put("text", b"5 41\n");
-    let ran = house.run(&["text"]);
-    assert!(ran.out.starts_with("R 4 0\n"), "{ran:?}");
-    assert_eq!((ran.err.as_str(), ran.status), ("", Some(1)));
+    for (text, refusal) in [("5 41\n", "R 4 0\n"), ("5 2 3\n", "R 12 0\n")] {
+        house.0.put("text", text.as_bytes());
+        let ran = house.run(&["text"]);
+        assert!(ran.out.starts_with(refusal), "{ran:?}");
+        assert_eq!((ran.err.as_str(), ran.status), ("", Some(1)));
+    }
 }
 
 #[test]
 fn a_wrong_text() {
     let house = House::new();
-    for text in ["", "5\n", "5 2\n10 1\n"] {
+    for text in ["", "5\n", "5 2 x\n", "5 2\n10 1\n"] {
         house.0.put("text", text.as_bytes());
         let ran = house.run(&["text"]);
         assert!(
@@ -130,7 +151,7 @@ fn strange_paths() {
         let sheet = house.listing(name);
         printed(house.run(&[name]), &sheet, 0);
         let text = format!("{name}/-t x t");
-        house.0.put(&text, text_of(5, 2, &LISTING).as_bytes());
+        house.0.put(&text, text_of((5, 2), &LISTING).as_bytes());
         printed(house.run(&[&text]), &sheet, 0);
         printed(house.run(&[&house.path(&text)]), &sheet, 0);
     }
@@ -144,7 +165,7 @@ fn strange_paths() {
 fn from_any_folder_and_by_links() {
     let house = House::new();
     let sheet = house.listing("a/b");
-    house.0.put("a/text", text_of(5, 2, &LISTING).as_bytes());
+    house.0.put("a/text", text_of((5, 2), &LISTING).as_bytes());
     house.0.put_folder("elsewhere/deep");
     symlink(house.0.at("plan"), house.0.at("elsewhere/plan")).unwrap();
     symlink("../plan", house.0.at("elsewhere/deep/again")).unwrap();
@@ -187,7 +208,7 @@ fn cdpath_does_not_matter() {
 fn a_temporary_folder_by_a_relative_path() {
     let house = House::new();
     let sheet = house.listing("records");
-    house.0.put("text", text_of(5, 2, &LISTING).as_bytes());
+    house.0.put("text", text_of((5, 2), &LISTING).as_bytes());
     for path in ["records", "text"] {
         printed(
             run_command(house.plan().env("TMPDIR", "room").arg(path), b""),
@@ -203,7 +224,7 @@ fn a_temporary_folder_by_a_relative_path() {
 fn output_that_cannot_be_written() {
     let house = House::new();
     house.listing("records");
-    house.0.put("text", text_of(5, 2, &LISTING).as_bytes());
+    house.0.put("text", text_of((5, 2), &LISTING).as_bytes());
     house.0.put("wrong", b"5\n");
     for path in ["records", "text", "wrong", "--help"] {
         for redirection in [">/dev/full", ">&-"] {
@@ -219,7 +240,7 @@ fn a_closed_pipe() {
     let house = House::new();
     // A sheet that no pipe holds.
     let list: Vec<Circuit> = (0..2048).map(|i| (u32::MAX - i, 1, 512)).collect();
-    house.0.put("text", text_of(512, 1, &list).as_bytes());
+    house.0.put("text", text_of((512, 1), &list).as_bytes());
     let mut command = house.plan();
     command
         .arg("text")

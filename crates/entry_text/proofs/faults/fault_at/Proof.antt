@@ -7,11 +7,11 @@ use Rattle.entry_text.proofs.faults.fault_at.Tie as tie
 
 returns : tie.Need-returns
 unfolding faultAt
-returns c = rw (eq-eqb _ _ (c .before .if1 .taken), ← c .before .before .before .line-start .ensures .0, ← c .before .before .line-end .ensures .0) (c .header-fault .ensures)
+returns c = rw (eq-eqb _ _ (c .before .if1 .taken), ← c .before .before .before .line-start .ensures .0, ← c .before .before .line-end .ensures .0) (c .line-fault .ensures)
 
 returns-2 : tie.Need-returns-2
 unfolding faultAt
-returns-2 c = rw (ne-eqb _ _ (c .before .if1 .left), ← c .before .before .before .line-start .ensures .0, ← c .before .before .line-end .ensures .0) (c .circuit-fault .ensures)
+returns-2 c = rw (ne-eqb _ _ (c .before .if1 .left), ← c .before .before .before .line-start .ensures .0, ← c .before .before .line-end .ensures .0) (c .line-fault2 .ensures)
 
 pub fault-at-spec : {M : Type 1} → statement M
 fault-at-spec =

@@ -16,8 +16,8 @@ returns-2 : tie.Need-returns-2
 returns-2 c =
     let args = c .before .before .before .before .before .args in
     let header-in = c .before .before .before .header-in in
-    let the-n = c .before .n in
-    opened-some (headerIn (args .text .now) (args .i) (args .e)) _ _ _ _ _ (header-in .ensures) (the-n .given .1)
+    let header = c .before .header in
+    opened-some (headerIn (args .text .now) (args .i) (args .e)) _ _ _ _ (header-in .ensures) (header .given .1)
 
 pub opened-spec : {M : Type 1} → statement M
 opened-spec =

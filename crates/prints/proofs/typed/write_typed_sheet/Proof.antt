@@ -25,7 +25,7 @@ write-explained-requires c κs = (c .before .before .before .before .before .bef
 
 add-result : tie.Need-add-result
 add-result c =
-    omega (arith, ends (c .before .before .before .before), c .before .before .write-explained .ensures .0, explained-room (c .before .before .before .before .before .before .before .before .before .before .before .before .args .text .now) (c .before .before .before .before .of-circuits .result))
+    omega (arith, ends (c .before .before .before .before), c .before .before .write-explained .ensures .0, explained-room (c .before .before .before .before .before .before .before .before .before .before .before .before .args .text .now) (c .before .before .before .before .before .before .before .before .before .before .before .before .args .line) (c .before .before .before .before .of-circuits .result))
 
 returns : tie.Need-returns
 returns c =

@@ -12,4 +12,5 @@ of-line-spec =
     (tie.spec
     (λ c κs. search needs) (λ c. search needs) (λ c. search needs) (λ c. search tests)
     (λ c κs. search needs) (λ c. search needs) (λ c. search needs) (λ c. search tests)
+    (λ c κs. search needs) (λ c. search needs) (λ c. search needs) (λ c. search tests)
     (λ c. search tests))

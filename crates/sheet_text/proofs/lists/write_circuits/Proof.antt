@@ -12,10 +12,10 @@ use Rattle.sheet_text.proofs.lists.write_circuits.Statement.{statement}
 use Rattle.sheet_text.proofs.lists.write_circuits.Tie as tie
 
 abbrev Inv-loop : tie.InvT-loop
-Inv-loop m assigns out₀ at₀ i₀ out at i = (i ≤ m) × (at ≤ 40 * i) × (length out ≡ length out₀) × (at ≡ length (circuitLines i assigns)) × (out ≡ circuitLines i assigns ++ drop at out₀)
+Inv-loop grid m assigns out₀ at₀ i₀ out at i = (i ≤ m) × (at ≤ 40 * i) × (length out ≡ length out₀) × (at ≡ length (circuitLines grid i assigns)) × (out ≡ circuitLines grid i assigns ++ drop at out₀)
 
 abbrev μ-loop : tie.MeasureT-loop
-μ-loop m assigns out₀ at₀ i₀ out at i = m - i
+μ-loop grid m assigns out₀ at₀ i₀ out at i = m - i
 
 loop-holds : tie.Need-loop-holds Inv-loop μ-loop
 unfolding circuitLines
@@ -26,9 +26,9 @@ loop-again c = let s = c .before .before .before .before .before .before .before
     let l = c .before .before .before .before .before .before .loop in
     let a = c .before .before .before .before .assignment-at in
     let p = c .before .before .write-circuit in
-    let w = by-name (circuitLines (l .i) (s .args .assigns .now) ++ circuitLine (a .result)) (circuitLines (l .i + 1) (s .args .assigns .now)) (s .args .out .now) _ (l .at + p .result)
-    (circuit-more (l .i) (s .args .assigns .now) (a .result) (a .ensures))
-    (then-part (circuitLines (l .i) (s .args .assigns .now)) (circuitLine (a .result)) (s .args .out .now) _ _ (l .at) (p .result) (l .inv .3, l .inv .4) (p .ensures .0, p .ensures .1)) in
+    let w = by-name (circuitLines (s .args .grid) (l .i) (s .args .assigns .now) ++ circuitLine (s .args .grid) (a .result)) (circuitLines (s .args .grid) (l .i + 1) (s .args .assigns .now)) (s .args .out .now) _ (l .at + p .result)
+    (circuit-more (s .args .grid) (l .i) (s .args .assigns .now) (a .result) (a .ensures))
+    (then-part (circuitLines (s .args .grid) (l .i) (s .args .assigns .now)) (circuitLine (s .args .grid) (a .result)) (s .args .out .now) _ _ (l .at) (p .result) (l .inv .3, l .inv .4) (p .ensures .0, p .ensures .1)) in
     (search needs, omega arith, search needs, w .0, w .1)
 
 returns : tie.Need-returns Inv-loop μ-loop
