@@ -35,6 +35,11 @@ extern "C" {
 #define FIBRE_PLAN_MAX_WAVELENGTHS_100_GHZ 40
 #define FIBRE_PLAN_MAX_WAVELENGTHS_50_GHZ 80
 
+/* What is wrong with the ends of a circuit that refusal 6 is about, in the order of the tests. */
+#define FIBRE_PLAN_END_FIRST_ZERO 1      /* the first link is 0 */
+#define FIBRE_PLAN_END_FIRST_PAST_LAST 2 /* the first link is past the last */
+#define FIBRE_PLAN_END_LAST_PAST_LINE 3  /* the last link is past the line */
+
 /* The bytes that each area must have, for so many circuits and links. There is at most one fibre a circuit. */
 #define FIBRE_PLAN_FIBRE_BYTES(circuits) (8 * (size_t)(circuits))
 #define FIBRE_PLAN_ASSIGNMENT_BYTES(circuits) (8 * (size_t)(circuits))
@@ -43,25 +48,27 @@ extern "C" {
 /* What fibre_plan answers. Where it refuses, the last three are 0.
  *
  * The tests run in this order, each over the whole input; the first refusal that applies is given,
- * and none otherwise. Places are circuit records, counted from 1.
+ * and none otherwise. Places are circuit records, counted from 1. The end is one of FIBRE_PLAN_END_..:
+ * the first of the three, in their order, that is wrong in the record of the place.
  *
- *   refusal  given when                                                   place
- *      0     planned                                                      0
- *      1     the circuit bytes are not a multiple of 8                    0
- *      2     there are more than 2,048 circuits                           0
- *      3     links is not 1 to 512                                        0
- *     12     grid is neither 1 nor 2                                      0
- *      4     wavelengths is not 1 to 40 (grid 1) or 1 to 80 (grid 2)      0
- *      5     a circuit number is 0                                        the first such record
- *      6     a first link is 0, or past the last, or the last past links  the first such record
- *      7     a circuit number stands twice                                the first that repeats
- *      8     fibres has fewer than 8 bytes a circuit                      0
- *      9     assignments has fewer than 8 bytes a circuit                 0
- *     10     work has fewer than 4 bytes a link and 4 bytes a circuit     0
+ *   refusal  given when                                                   place                   end
+ *      0     planned                                                      0                       0
+ *      1     the circuit bytes are not a multiple of 8                    0                       0
+ *      2     there are more than 2,048 circuits                           0                       0
+ *      3     links is not 1 to 512                                        0                       0
+ *     12     grid is neither 1 nor 2                                      0                       0
+ *      4     wavelengths is not 1 to 40 (grid 1) or 1 to 80 (grid 2)      0                       0
+ *      5     a circuit number is 0                                        the first such record   0
+ *      6     a first link is 0, or past the last, or the last past links  the first such record   1, 2 or 3
+ *      7     a circuit number stands twice                                the first that repeats  0
+ *      8     fibres has fewer than 8 bytes a circuit                      0                       0
+ *      9     assignments has fewer than 8 bytes a circuit                 0                       0
+ *     10     work has fewer than 4 bytes a link and 4 bytes a circuit     0                       0
  */
 typedef struct fibre_plan_answer {
     uint32_t refusal; /* 0: planned */
     uint32_t place;
+    uint32_t end;     /* 0, but for refusal 6 */
     size_t fibres;    /* how many fibre records were written, at most one a circuit */
     size_t total;     /* the sum over the fibres of the links that they span */
     size_t floor;     /* a length that no valid plan can be shorter than; total is at most twice that */

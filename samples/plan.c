@@ -35,7 +35,7 @@ int main(void) {
                                           circuits, sizeof circuits, fibres, sizeof fibres,
                                           assignments, sizeof assignments, work, sizeof work);
     if (answer.refusal != 0) {
-        printf("R %u %u\n", (unsigned)answer.refusal, (unsigned)answer.place);
+        printf("R %u %u %u\n", (unsigned)answer.refusal, (unsigned)answer.place, (unsigned)answer.end);
         return 1;
     }
     for (size_t i = 0; i < answer.fibres; i++) print_fibre(fibres + 8 * i);

@@ -24,13 +24,13 @@ fn limits(t: Tally) -> Tally {
     let t = case(
         t,
         b"case 9, 513 links",
-        refused(3, 0),
+        refused(3, 0, 0),
         runs::none(drawn(513, 1)),
     );
     let t = case(
         t,
         b"case 9, 0 links",
-        refused(3, 0),
+        refused(3, 0, 0),
         runs::none(drawn(0, 1)),
     );
     let t = case(
@@ -42,10 +42,15 @@ fn limits(t: Tally) -> Tally {
     let t = case(
         t,
         b"case 9, w = 41",
-        refused(4, 0),
+        refused(4, 0, 0),
         runs::none(drawn(1, 41)),
     );
-    case(t, b"case 9, w = 0", refused(4, 0), runs::none(drawn(1, 0)))
+    case(
+        t,
+        b"case 9, w = 0",
+        refused(4, 0, 0),
+        runs::none(drawn(1, 0)),
+    )
 }
 
 // The ends of the allowed numbers of circuits.
@@ -65,7 +70,7 @@ fn crowds(t: Tally) -> Tally {
     case(
         t,
         b"case 9, 2049 circuits",
-        refused(2, 0),
+        refused(2, 0, 0),
         runs::many(drawn(512, 40), 2049, 512),
     )
 }
@@ -95,19 +100,19 @@ fn last_links(t: Tally) -> Tally {
     let t = case(
         t,
         b"case 10, last = n + 1",
-        refused(6, 1),
+        refused(6, 1, 3),
         runs::one(drawn(5, 1), ends(5, 6)),
     );
     let t = case(
         t,
         b"case 10, first = 0",
-        refused(6, 1),
+        refused(6, 1, 1),
         runs::one(drawn(5, 1), ends(0, 1)),
     );
     case(
         t,
         b"case 10, first past last",
-        refused(6, 1),
+        refused(6, 1, 2),
         runs::one(drawn(5, 1), ends(3, 2)),
     )
 }
@@ -122,19 +127,19 @@ fn numbers(t: Tally) -> Tally {
     let t = case(
         t,
         b"case 11, zero number in record 2, bad end in record 1",
-        refused(5, 2),
+        refused(5, 2, 0),
         runs::three(ends(1, 9), numbered(0), numbered(8)),
     );
     let t = case(
         t,
         b"case 12, numbers 4, 4, 4",
-        refused(7, 2),
+        refused(7, 2, 0),
         runs::three(numbered(4), numbered(4), numbered(4)),
     );
     let t = case(
         t,
         b"case 12, numbers 4, 5, 4",
-        refused(7, 3),
+        refused(7, 3, 0),
         runs::three(numbered(4), numbered(5), numbered(4)),
     );
     case(
@@ -147,9 +152,9 @@ fn numbers(t: Tally) -> Tally {
 
 // Whole records and too few or too many bytes.
 fn lengths(t: Tally) -> Tally {
-    let t = case(t, b"a file of 7 bytes", refused(1, 0), runs::bytes(7));
+    let t = case(t, b"a file of 7 bytes", refused(1, 0, 0), runs::bytes(7));
     let t = case(t, b"a file of 8 bytes", planned(1, 1, 1), runs::bytes(8));
-    case(t, b"a file of 9 bytes", refused(1, 0), runs::bytes(9))
+    case(t, b"a file of 9 bytes", refused(1, 0, 0), runs::bytes(9))
 }
 
 // Lent areas that hold exactly what one circuit on one link needs, and one byte less.
@@ -163,19 +168,19 @@ fn rooms(t: Tally) -> Tally {
     let t = case(
         t,
         b"fibre list of 7 bytes",
-        refused(8, 0),
+        refused(8, 0, 0),
         runs::lent(sized(7, 8, 8)),
     );
     let t = case(
         t,
         b"assignment list of 7 bytes",
-        refused(9, 0),
+        refused(9, 0, 0),
         runs::lent(sized(8, 7, 8)),
     );
     case(
         t,
         b"work area of 7 bytes",
-        refused(10, 0),
+        refused(10, 0, 0),
         runs::lent(sized(8, 8, 7)),
     )
 }
@@ -202,6 +207,28 @@ fn stretches(t: Tally) -> Tally {
     )
 }
 
+// Which end is wrong: the first of its faults that the first faulty record has.
+fn wrong_ends(t: Tally) -> Tally {
+    let t = case(
+        t,
+        b"R-6, [9, 8] on 5 links",
+        refused(6, 1, 2),
+        runs::one(drawn(5, 1), ends(9, 8)),
+    );
+    let t = case(
+        t,
+        b"R-6, [0, 9] on 5 links",
+        refused(6, 1, 1),
+        runs::one(drawn(5, 1), ends(0, 9)),
+    );
+    case(
+        t,
+        b"R-6, [1, 6] before [0, 1]",
+        refused(6, 2, 3),
+        runs::three(circuit(1, 1, 1), circuit(2, 1, 6), circuit(3, 0, 1)),
+    )
+}
+
 // Grid 2: up to 80 wavelengths.
 fn fifty(t: Tally) -> Tally {
     let t = case(
@@ -213,13 +240,13 @@ fn fifty(t: Tally) -> Tally {
     let t = case(
         t,
         b"R-5, w = 81 on grid 2",
-        refused(4, 0),
+        refused(4, 0, 0),
         runs::none(on_grid(1, 81, 2)),
     );
     let t = case(
         t,
         b"R-5, w = 81 on grid 1",
-        refused(4, 0),
+        refused(4, 0, 0),
         runs::none(on_grid(1, 81, 1)),
     );
     case(
@@ -235,37 +262,37 @@ fn no_grid(t: Tally) -> Tally {
     let t = case(
         t,
         b"R-5, grid 0",
-        refused(12, 0),
+        refused(12, 0, 0),
         runs::none(on_grid(1, 1, 0)),
     );
     let t = case(
         t,
         b"R-5, grid 3",
-        refused(12, 0),
+        refused(12, 0, 0),
         runs::none(on_grid(1, 1, 3)),
     );
     let t = case(
         t,
         b"R-5, grid 65537",
-        refused(12, 0),
+        refused(12, 0, 0),
         runs::none(on_grid(1, 1, 65537)),
     );
     let t = case(
         t,
         b"R-5, grid 4294967298",
-        refused(12, 0),
+        refused(12, 0, 0),
         runs::none(on_grid(1, 1, 4294967298)),
     );
     let t = case(
         t,
         b"R-5, grid 3 and w = 0",
-        refused(12, 0),
+        refused(12, 0, 0),
         runs::none(on_grid(1, 0, 3)),
     );
     case(
         t,
         b"R-5, grid 3 and 0 links",
-        refused(3, 0),
+        refused(3, 0, 0),
         runs::none(on_grid(0, 1, 3)),
     )
 }
@@ -315,6 +342,7 @@ fn main() {
     let t = lengths(t);
     let t = rooms(t);
     let t = stretches(t);
+    let t = wrong_ends(t);
     let t = fifty(t);
     let t = no_grid(t);
     let t = precedence(t);

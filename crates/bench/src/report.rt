@@ -2,12 +2,12 @@
 use crate::inputs::Faults;
 use crate::runs::Came;
 
-// An answer: the refusal's number, or 0, and what comes with it.
+// An answer: the refusal's number, or 0, and what comes with it: place and end, or fibres, total and floor.
 pub struct Told {
     pub number: usize,
     pub first: usize,
-    pub total: usize,
-    pub floor: usize,
+    pub second: usize,
+    pub third: usize,
 }
 
 // How many cases there were, and how many came out otherwise than expected.
@@ -21,18 +21,18 @@ pub fn planned(fibres: usize, total: usize, floor: usize) -> Told {
     Told {
         number: 0,
         first: fibres,
-        total,
-        floor,
+        second: total,
+        third: floor,
     }
 }
 
 // The answer of a refusal.
-pub fn refused(number: usize, place: usize) -> Told {
+pub fn refused(number: usize, place: usize, end: usize) -> Told {
     Told {
         number,
         first: place,
-        total: 0,
-        floor: 0,
+        second: end,
+        third: 0,
     }
 }
 
@@ -47,12 +47,13 @@ fn print_told(t: Told) {
     if t.number == 0 {
         files::write_output(b" planned");
         print_field(t.first);
-        print_field(t.total);
-        print_field(t.floor);
+        print_field(t.second);
+        print_field(t.third);
     } else {
         files::write_output(b" refused");
         print_field(t.number);
         print_field(t.first);
+        print_field(t.second);
     }
 }
 
@@ -65,10 +66,10 @@ fn agrees(expected: Told, came: Came) -> bool {
     if expected.first != told.first {
         return false;
     }
-    if expected.total != told.total {
+    if expected.second != told.second {
         return false;
     }
-    if expected.floor != told.floor {
+    if expected.third != told.third {
         return false;
     }
     if came.fibres != 0 {
@@ -126,12 +127,17 @@ fn place(fault: usize) -> usize {
     }
 }
 
+// The end that a fault of the faulty files is told with: first past last.
+fn end(fault: usize) -> usize {
+    if fault == 6 { 2 } else { 0 }
+}
+
 // A case of two faults, of which the first is given.
 pub fn pair(t: Tally, f: Faults, came: Came) -> Tally {
     files::write_output(b"faults");
     print_field(f.one);
     print_field(f.other);
-    compare(t, refused(f.one, place(f.one)), came)
+    compare(t, refused(f.one, place(f.one), end(f.one)), came)
 }
 
 // Prints how many cases there were and how many differ.

@@ -106,8 +106,8 @@ fn seen(a: Answer, n: usize, m: usize, fibres: &[u8], assigns: &[u8], work: &[u8
                 work: astray(work, k, k),
             }
         }
-        Answer::Refused { number, place } => Came {
-            told: crate::report::refused(number as usize, place as usize),
+        Answer::Refused { number, place, end } => Came {
+            told: crate::report::refused(number as usize, place as usize, end as usize),
             fibres: astray(fibres, 0, 0),
             assigns: astray(assigns, 0, 0),
             work: astray(work, 0, 0),

@@ -20,9 +20,9 @@ use Rattle.exports.specs.declared.PlanAnswer.{PlanAnswer}
 use Rattle.exports.specs.Exported.{flat, told, Exported}
 
 -- a refusal whose number is not 0 is told as it was
-told-refused : (number place : ℕ) → 1 ≤ number → told (flat (Refused number place)) ≡ Refused number place
-told-refused zero place e = absurd (omega arith)
-told-refused (suc k) place e = refl
+told-refused : (number place end : ℕ) → 1 ≤ number → told (flat (Refused number place end)) ≡ Refused number place end
+told-refused zero place end e = absurd (omega arith)
+told-refused (suc k) place end e = refl
 
 module _ (line : Line) (s : List ℕ) (before after : Areas) where
   -- the answer of an outcome is told as it was
@@ -32,9 +32,9 @@ module _ (line : Line) (s : List ℕ) (before after : Areas) where
     where
       go : (t : Verdict) → judged line s before ≡ t → a ≡ answerBy t (numbersOf line s) → told (flat a) ≡ a
       go (Checked m) q e = ap (λ (b : Answer). told (flat b)) e ∙ sym e
-      go (Failed number place) q e =
-          let named = plan-named line s _ _ _ (record { number = number; place = place }) (verdict-refused (tableFor line s before) (length s / 8) _ q) in
-          ap (λ (b : Answer). told (flat b)) e ∙ told-refused number place named ∙ sym e
+      go (Failed number place end) q e =
+          let named = plan-named line s _ _ _ (record { number = number; place = place; end = end }) (verdict-refused (tableFor line s before) (length s / 8) _ q) in
+          ap (λ (b : Answer). told (flat b)) e ∙ told-refused number place end named ∙ sym e
 
   -- an outcome of `plan`, its answer flattened, is what is promised
   pub exported : (a : Answer) (r : PlanAnswer) → r ≡ flat a → Outcome line s before after a → Exported line s before after r

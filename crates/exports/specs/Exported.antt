@@ -13,17 +13,17 @@ use Rattle.exports.specs.declared.PlanAnswer.{PlanAnswer}
 
 -- an answer as numbers: refusal 0 is a plan
 abbrev pub flat : Answer → PlanAnswer
-flat (Planned counts) = record { refusal = 0; place = 0; fibres = counts .fibres; total = counts .total; floor = counts .floor }
-flat (Refused number place) = record { refusal = number; place = place; fibres = 0; total = 0; floor = 0 }
+flat (Planned counts) = record { refusal = 0; place = 0; end = 0; fibres = counts .fibres; total = counts .total; floor = counts .floor }
+flat (Refused number place end) = record { refusal = number; place = place; end = end; fibres = 0; total = 0; floor = 0 }
 
 -- a plan where the refusal is 0
-abbrev pub toldBy : ℕ → ℕ → Counts → Answer
-toldBy zero place counts = Planned counts
-toldBy (suc k) place counts = Refused (suc k) place
+abbrev pub toldBy : ℕ → ℕ → ℕ → Counts → Answer
+toldBy zero place end counts = Planned counts
+toldBy (suc k) place end counts = Refused (suc k) place end
 
 -- the answer that a caller tells from the numbers
 abbrev pub told : PlanAnswer → Answer
-told r = toldBy (r .refusal) (r .place) (record { fibres = r .fibres; total = r .total; floor = r .floor })
+told r = toldBy (r .refusal) (r .place) (r .end) (record { fibres = r .fibres; total = r .total; floor = r .floor })
 
 -- the line that a caller names by three numbers
 abbrev pub lineOf : ℕ → ℕ → ℕ → Line

@@ -5,11 +5,12 @@ ghost use mathlib.Core.Path.{_≡_};
 ghost use Rattle.register.specs.Areas.{areas};
 ghost use Rattle.exports.specs.Exported.{flat, lineOf, Exported};
 
-// Planned where `refusal` is 0, with the three numbers; else the refusal's number and place, and zeros.
+// Planned where `refusal` is 0, with the three numbers; else the refusal's number and place, which end is wrong, and zeros.
 #[repr(C)]
 pub struct PlanAnswer {
     pub refusal: u32,
     pub place: u32,
+    pub end: u32,
     pub fibres: usize,
     pub total: usize,
     pub floor: usize,
@@ -23,13 +24,15 @@ fn flattened(a: Answer) -> PlanAnswer
         Answer::Planned(c) => PlanAnswer {
             refusal: 0,
             place: 0,
+            end: 0,
             fibres: c.fibres,
             total: c.total,
             floor: c.floor,
         },
-        Answer::Refused { number, place } => PlanAnswer {
+        Answer::Refused { number, place, end } => PlanAnswer {
             refusal: number,
             place,
+            end,
             fibres: 0,
             total: 0,
             floor: 0,

@@ -15,7 +15,7 @@ use Rattle.records.specs.declared.Line.{Line}
 use Rattle.records.proofs.Files.{circuitsIn-at, length-circuitsIn}
 use Rattle.method.specs.Line.{Distinct, circuit, nobody}
 use Rattle.refusals.specs.Given.{NoneApplies}
-use Rattle.refusals.specs.Table.{badEnds, firstRecord, repeats, whenever, wherever, fileRows, lineRows, recordRows, circuitRows, areaRows, planTable}
+use Rattle.refusals.specs.Table.{badEnds, firstRecord, noEnd, repeats, whenever, wherever, fileRows, lineRows, recordRows, circuitRows, areaRows, planTable}
 use Rattle.refusals.proofs.First.{record-none}
 use Rattle.refusals.proofs.FirstLaws.{first-end}
 use Rattle.refusals.proofs.Passed.{passed2, passes-room, wherever-none}
@@ -39,12 +39,12 @@ module _ (line : Line) (s s' : List ℕ) (among : Among s s') (passed : NoneAppl
       (x .0, b, sym (circuitsIn-at (length s' / 8) s' j nobody h) ∙ x .2 ∙ circuitsIn-at (length s / 8) s (x .0) nobody b)
 
   -- what fails for every record of the one file fails for every record of the other
-  none-either : (number : ℕ) (p : Circuit → Bool) → wherever number (firstRecord (λ i. p (circuitOf (recordAt s i))) (length s / 8)) ≡ none
-      → wherever number (firstRecord (λ i. p (circuitOf (recordAt s' i))) (length s' / 8)) ≡ none
-  none-either number p e =
-      ap (wherever number)
+  none-either : (number : ℕ) (end end' : ℕ → ℕ) (p : Circuit → Bool) → wherever number end (firstRecord (λ i. p (circuitOf (recordAt s i))) (length s / 8)) ≡ none
+      → wherever number end' (firstRecord (λ i. p (circuitOf (recordAt s' i))) (length s' / 8)) ≡ none
+  none-either number end end' p e =
+      ap (wherever number end')
       (first-end (λ i. p (circuitOf (recordAt s' i))) (length s' / 8)
-      (λ j h. let t = twin j h in ap p (t .2) ∙ record-none (λ i. p (circuitOf (recordAt s i))) (length s / 8) (wherever-none number _ e) (t .0) (t .1)))
+      (λ j h. let t = twin j h in ap p (t .2) ∙ record-none (λ i. p (circuitOf (recordAt s i))) (length s / 8) (wherever-none number end _ e) (t .0) (t .1)))
 
   -- no record repeats a number
   no-repeat : firstRecord (repeats s') (length s' / 8) ≡ none
@@ -76,9 +76,9 @@ module _ (line : Line) (s s' : List ℕ) (among : Among s s') (passed : NoneAppl
   unfolding recordRows
   records-pass =
       let p = of-records line s passed in
-      none-more _ _ (none-either 5 (λ c. eqb (c .number) 0) (none-first _ _ p))
-      (none-more _ _ (none-either 6 (badEnds (line .links)) (none-first _ _ (none-rest _ _ p)))
-      (none-more _ _ (ap (wherever 7) no-repeat) none-end))
+      none-more _ _ (none-either 5 noEnd noEnd (λ c. eqb (c .number) 0) (none-first _ _ p))
+      (none-more _ _ (none-either 6 _ _ (badEnds (line .links)) (none-first _ _ (none-rest _ _ p)))
+      (none-more _ _ (ap (wherever 7 noEnd) no-repeat) none-end))
 
   -- so tests 1 to 7 and 12
   pub circuits-pass : NoneApplies (circuitRows line s')

@@ -18,6 +18,7 @@ use Rattle.refusals.specs.Given.{NoneApplies}
 use Rattle.refusals.specs.Refusals.{Refusal, refusedWith}
 use Rattle.refusals.specs.declared.Verdict.{Verdict}
 use Rattle.refusals.specs.declared.Verdict.the-variants.{Checked, Refused as Failed}
+use Rattle.refusals.proofs.EndLaws.{plan-tells}
 use Rattle.refusals.proofs.First.{verdict-given, verdict-passed, verdict-passes, verdict-refused}
 use Rattle.register.specs.Areas.{Areas, zeroedTo}
 use Rattle.register.specs.Lists.{assignmentList, assignmentRecord, assignmentRecords, countsOf, fibreList, fibreRecord, fibreRecords}
@@ -47,9 +48,9 @@ module _ (line : Line) (s : List ℕ) (before after : Areas) (answer : Answer) (
           → after .work ≡ ifAccepted t (zeroedTo (4 * line .links + 4 * (length s / 8)) (before .work)) (before .work)
           → (judged line s before ≡ refusedWith r) × (after ≡ before)
       go (Checked m) q a f g h = let z = sym (ap refusalOf a) ∙ e in absurd (let y : _≡_ {A = ℕ} 0 1 = cc in omega arith)
-      go (Failed k p) q a f g h =
+      go (Failed k p d) q a f g h =
           let z = sym (ap refusalOf a) ∙ e in
-          (q ∙ (let y : Failed k p ≡ refusedWith r = cc in y), λ i. record { fibres = f i; assigns = g i; work = h i })
+          (q ∙ (let y : Failed k p d ≡ refusedWith r = cc in y), λ i. record { fibres = f i; assigns = g i; work = h i })
 
   -- a planned answer has the plan's numbers, and the lists are written
   pub planned-so : (counts : Counts) → answer ≡ Planned counts
@@ -69,7 +70,7 @@ module _ (line : Line) (s : List ℕ) (before after : Areas) (answer : Answer) (
       go (Checked m) q a f g h =
           let z : Planned (numbersOf line s) ≡ Planned counts = sym a ∙ e in
           (verdict-passed (tableFor line s before) (length s / 8) m q .1, cc, f, g, h)
-      go (Failed k p) q a f g h = let z = sym e ∙ a in absurd (let y : _≡_ {A = ℕ} 0 1 = cc in omega arith)
+      go (Failed k p d) q a f g h = let z = sym e ∙ a in absurd (let y : _≡_ {A = ℕ} 0 1 = cc in omega arith)
 
   -- demand 1
   pub seen-1 : Seen1 line s before after answer
@@ -79,6 +80,7 @@ module _ (line : Line) (s : List ℕ) (before after : Areas) (answer : Answer) (
         as-tabled = λ r e. verdict-refused (tableFor line s before) (length s / 8) r (refused-so r e .0);
         whenever-tabled = λ r g. ap refusalOf (o .answered ∙ ap (λ (t : Verdict). answerBy t (numbersOf line s)) (verdict-given (tableFor line s before) (length s / 8) r g));
         otherwise-planned = λ f. (numbersOf line s, o .answered ∙ ap (λ (t : Verdict). answerBy t (numbersOf line s)) (verdict-passes (tableFor line s before) (length s / 8) f));
+        end-told = λ r e. (let g = verdict-refused (tableFor line s before) (length s / 8) r (refused-so r e .0) in plan-tells line s _ _ _ .at (g .index) r (g .below) (g .here));
         unchanged = λ r e. refused-so r e .1;
       }
 

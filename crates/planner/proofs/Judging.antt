@@ -43,10 +43,10 @@ module _ (line : Line) (s : List ℕ) (before : Areas) where
       })
 
   -- a refusal changes nothing
-  pub refused : (t : Verdict) (number place : ℕ) → t ≡ verdict (tableFor line s before) (length s / 8) → t ≡ Failed number place → Outcome line s before before (Refused number place)
+  pub refused : (t : Verdict) (number place end : ℕ) → t ≡ verdict (tableFor line s before) (length s / 8) → t ≡ Failed number place end → Outcome line s before before (Refused number place end)
   unfolding judged
-  refused t number place a b =
-      let j : judged line s before ≡ Failed number place = sym a ∙ b in
+  refused t number place end a b =
+      let j : judged line s before ≡ Failed number place end = sym a ∙ b in
       record {
         answered = sym (ap (λ (x : Verdict). answerBy x (numbersOf line s)) j);
         listed = sym (ap (λ (x : Verdict). ifAccepted x (fibreList 0 ((planOf line s) .fibres) (before .fibres)) (before .fibres)) j);

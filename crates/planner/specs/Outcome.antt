@@ -22,11 +22,11 @@ use Rattle.planner.specs.declared.Answer.the-variants.{Planned, Refused}
 -- what an answer refuses: one definition takes each of its cases to a refusal, or none
 abbrev pub refusalOf : Answer → Option Refusal
 refusalOf (Planned counts) = none
-refusalOf (Refused number place) = some (record { number = number; place = place })
+refusalOf (Refused number place end) = some (record { number = number; place = place; end = end })
 
 -- the answer that refuses so
 abbrev pub refusedAs : Refusal → Answer
-refusedAs r = Refused (r .number) (r .place)
+refusedAs r = Refused (r .number) (r .place) (r .end)
 
 -- the table of refusals for a line, circuit bytes s and lent areas
 abbrev pub tableFor : Line → List ℕ → Areas → List Row

@@ -15,6 +15,7 @@ use Rattle.method.specs.Demands.{Rearranged}
 use Rattle.method.specs.LitDemands.{LitRules}
 use Rattle.refusals.specs.Refusals.{Refusal}
 use Rattle.refusals.specs.Given.{Given, NoneApplies}
+use Rattle.refusals.specs.Ends.{TellsEnd}
 use Rattle.register.specs.Areas.{Areas}
 use Rattle.register.specs.Plans.{planIn, Numbered, InFileOrder}
 use Rattle.register.specs.declared.Counts.{Counts}
@@ -23,11 +24,12 @@ use Rattle.planner.specs.declared.Answer.{Answer}
 use Rattle.planner.specs.declared.Answer.the-variants.{Planned}
 
 module _ (line : Line) (s : List ℕ) (before after : Areas) where
-  -- demand 1: a refusal is given exactly as tabled, and then no byte is changed
+  -- demand 1: a refusal is given exactly as tabled, tells the wrong end as R-6 has it, and then no byte is changed
   pub record Seen1 (answer : Answer) : Type 0 where
     pub as-tabled : (r : Refusal) → refusalOf answer ≡ some r → Given (tableFor line s before) r
     pub whenever-tabled : (r : Refusal) → Given (tableFor line s before) r → refusalOf answer ≡ some r
     pub otherwise-planned : NoneApplies (tableFor line s before) → (counts : Counts) × (answer ≡ Planned counts)
+    pub end-told : (r : Refusal) → refusalOf answer ≡ some r → TellsEnd (line .links) (length s / 8) s r
     pub unchanged : (r : Refusal) → refusalOf answer ≡ some r → after ≡ before
 
   -- the plan that the two lists hold

@@ -9,10 +9,10 @@ ghost use Rattle.planner.specs.Settled.{Admitted, Settled};
 
 mod admit;
 
-// Planned, with the three numbers, or refused, with number and place.
+// Planned, with the three numbers, or refused, with number, place and which end is wrong.
 pub enum Answer {
     Planned(Counts),
-    Refused { number: u32, place: u32 },
+    Refused { number: u32, place: u32, end: u32 },
 }
 
 // Plans circuits that passed the tests. What was used of the work area is zeroed.
@@ -53,7 +53,7 @@ pub fn plan(
 {
     let t = admit::of_plan(line, circuits, fibres.len(), assigns.len(), work.len());
     match t {
-        Verdict::Refused { number, place } => Answer::Refused { number, place },
+        Verdict::Refused { number, place, end } => Answer::Refused { number, place, end },
         Verdict::Checked(m) => {
             let job = Job {
                 links: line.links,

@@ -132,10 +132,10 @@ module _ (line : Line) (s : List ℕ) (before : Areas) (ample : Ample (before .f
         let j = all-pass (verdict-passed (circuitRows line s) (length s / 8) m q .1) in
         let is : answer ≡ Planned (numbersOf line s) = o .answered ∙ ap (λ (t : Verdict). answerBy t (numbersOf line s)) j in
         subst (λ (a : Answer). Said (Checked m) a (after .fibres) (after .assigns)) (sym is) (planned m q)
-    said (Failed number place) q =
-        let j : Failed number place ≡ judged line s before = piece-gives (circuitRows line s) _ (length s / 8) (length s / 8) number place (Failed number place) (sym q) refl in
-        let is : answer ≡ Refused number place = o .answered ∙ sym (ap (λ (t : Verdict). answerBy t (numbersOf line s)) j) in
-        subst (λ (a : Answer). Said (Failed number place) a (after .fibres) (after .assigns)) (sym is) (tt, refl)
+    said (Failed number place end) q =
+        let j : Failed number place end ≡ judged line s before = piece-gives (circuitRows line s) _ (length s / 8) (length s / 8) number place end (Failed number place end) (sym q) refl in
+        let is : answer ≡ Refused number place end = o .answered ∙ sym (ap (λ (t : Verdict). answerBy t (numbersOf line s)) j) in
+        subst (λ (a : Answer). Said (Failed number place end) a (after .fibres) (after .assigns)) (sym is) (tt, refl)
 
     -- the lists hold what the answer counts
     pub held : Held answer (length s / 8) (after .fibres) (after .assigns)

@@ -31,7 +31,7 @@ use Rattle.entry_text.specs.declared.Entry.the-variants.{Entered, Wrong}
 use Rattle.entry_text.proofs.PairLaws.{counted}
 use Rattle.entry_text.proofs.MessageLaws.{line-room}
 use Rattle.prints.specs.Sheets.{sheetOf}
-use Rattle.prints.specs.Typed.{explained, refusalWords, typedBy, typedSheet, typedText}
+use Rattle.prints.specs.Typed.{endWords, explained, refusalWords, typedBy, typedSheet, typedText}
 
 -- the words with the grid's limit are at most 64 bytes
 limit-room : (grid : ℕ) → length (words "not 1 to " ++ decimal (limitOf grid) ++ words " wavelengths\n") ≤ 64
@@ -40,14 +40,21 @@ limit-room grid =
     let d = decimal (limitOf grid) in
     omega (arith, length-twenty (limitOf grid), length-append (words "not 1 to ") d, length-append (words "not 1 to " ++ d) (words " wavelengths\n"))
 
--- so are all words of a refusal
-pub words-room : (grid number : ℕ) → length (refusalWords grid number) ≤ 64
+-- so are those of an end
+end-room : (end : ℕ) → length (endWords end) ≤ 64
+unfolding endWords words codes
+end-room end =
+    on (eqb end 1) (λ q. rw q (leb-true _ _ refl))
+    (λ q. on (eqb end 2) (λ p. rw (q, p) (leb-true _ _ refl)) (λ p. rw (q, p) (leb-true _ _ refl)))
+
+-- and all words of a refusal
+pub words-room : (grid number end : ℕ) → length (refusalWords grid number end) ≤ 64
 unfolding refusalWords words codes
-words-room grid number =
+words-room grid number end =
     on (eqb number 3) (λ q. rw q (leb-true _ _ refl))
     (λ q. on (eqb number 4) (λ p. rw (q, p) (limit-room grid))
     (λ p. on (eqb number 5) (λ r. rw (q, p, r) (leb-true _ _ refl))
-    (λ r. on (eqb number 6) (λ t. rw (q, p, r, t) (leb-true _ _ refl))
+    (λ r. on (eqb number 6) (λ t. rw (q, p, r, t) (end-room end))
     (λ t. on (eqb number 7) (λ u. rw (q, p, r, t, u) (leb-true _ _ refl))
     (λ u. on (eqb number 12) (λ v. rw (q, p, r, t, u, v) (leb-true _ _ refl)) (λ v. rw (q, p, r, t, u, v) (leb-true _ _ refl)))))))
 
@@ -56,13 +63,13 @@ pub no-more : (text : List ℕ) (line : Line) (v : Verdict) (m : ℕ) (out : Lis
 no-more text line v m out e = subst (λ (x : Verdict). Wrote (explained text line x) 0 out out) (sym e) (refl, refl)
 
 -- after a refusal come the line of the text and the words
-pub after-line : (text : List ℕ) (line : Line) (v : Verdict) (number place l n k : ℕ) (before after part : List ℕ) → v ≡ Refused number place → l ≡ lineOfRecord text place
-    → Wrote (lineWords l) n before after → Wrote (refusalWords (line .grid) number) k (midOf n (length after - n) after) part
+pub after-line : (text : List ℕ) (line : Line) (v : Verdict) (number place end l n k : ℕ) (before after part : List ℕ) → v ≡ Refused number place end → l ≡ lineOfRecord text place
+    → Wrote (lineWords l) n before after → Wrote (refusalWords (line .grid) number end) k (midOf n (length after - n) after) part
     → Wrote (explained text line v) (n + k) before (putMid n (length after - n) after part)
-after-line text line v number place l n k before after part e f w p =
-    let both : Wrote (lineWords l ++ refusalWords (line .grid) number) (n + k) before (putMid n (length after - n) after part) = then-part (lineWords l) (refusalWords (line .grid) number) before after part n k w p in
+after-line text line v number place end l n k before after part e f w p =
+    let both : Wrote (lineWords l ++ refusalWords (line .grid) number end) (n + k) before (putMid n (length after - n) after part) = then-part (lineWords l) (refusalWords (line .grid) number end) before after part n k w p in
     subst (λ (x : Verdict). Wrote (explained text line x) (n + k) before (putMid n (length after - n) after part)) (sym e)
-    (subst (λ (x : ℕ). Wrote (lineWords x ++ refusalWords (line .grid) number) (n + k) before (putMid n (length after - n) after part)) f both)
+    (subst (λ (x : ℕ). Wrote (lineWords x ++ refusalWords (line .grid) number end) (n + k) before (putMid n (length after - n) after part)) f both)
 
 -- the first k bytes were lent, text was written at their start, and they came back
 pub front-part : (d xs ys : List ℕ) (n k : ℕ) → k ≤ length xs → length ys ≡ length (midOf 0 (k - 0) xs) → Wrote d n (midOf 0 (k - 0) xs) ys → Wrote d n xs (putMid 0 (k - 0) xs ys)
@@ -81,9 +88,9 @@ front-within d xs ys n k h l w = omega (arith, within d (midOf 0 (k - 0) xs) ys 
 -- what comes after a sheet or a refusal is at most 91 bytes
 pub explained-room : (text : List ℕ) (line : Line) (v : Verdict) → length (explained text line v) ≤ 91
 explained-room text line (Checked m) = omega arith
-explained-room text line (Refused number place) =
+explained-room text line (Refused number place end) =
     let l = lineOfRecord text place in
-    omega (arith, length-append (lineWords l) (refusalWords (line .grid) number), line-room l, words-room (line .grid) number)
+    omega (arith, length-append (lineWords l) (refusalWords (line .grid) number end), line-room l, words-room (line .grid) number end)
 
 -- the sheet was written in the first k bytes, and what comes after it in the rest
 pub sheet-then : (text : List ℕ) (line : Line) (s xs ys zs : List ℕ) (v : Verdict) (n k b : ℕ) → k ≤ length xs → length ys ≡ length (midOf 0 (k - 0) xs)

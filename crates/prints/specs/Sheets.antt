@@ -33,7 +33,7 @@ sheetOf line s = textBy (verdict (circuitRows line s) (length s / 8)) (planText 
 
 -- refusal 11, which only the program gives
 abbrev pub unread : List ℕ
-unread = refusalLine (record { number = 11; place = 0 })
+unread = refusalLine (record { number = 11; place = 0; end = 0 })
 
 -- what `line.rec` says comes first, and then at most the first 16,392 bytes of `circuits.rec` count
 abbrev pub printedBy : LineFile → List ℕ → List ℕ

@@ -22,19 +22,23 @@ use Rattle.entry_text.specs.declared.Entry.{Entry}
 use Rattle.entry_text.specs.declared.Entry.the-variants.{Entered, Wrong}
 use Rattle.prints.specs.Sheets.{sheetOf}
 
--- a refusal on a grid in words, by its number; another number has none
-unfoldable pub refusalWords : ℕ → ℕ → List ℕ
-refusalWords grid number =
+-- which end is wrong, in words
+unfoldable pub endWords : ℕ → List ℕ
+endWords end = cond (eqb end 1) (words "first link 0\n") (cond (eqb end 2) (words "first link past the last\n") (words "last link past the line\n"))
+
+-- a refusal on a grid in words, by its number and end; another number has none
+unfoldable pub refusalWords : ℕ → ℕ → ℕ → List ℕ
+refusalWords grid number end =
     cond (eqb number 3) (words "not 1 to 512 links\n")
     (cond (eqb number 4) (words "not 1 to " ++ decimal (limitOf grid) ++ words " wavelengths\n")
     (cond (eqb number 5) (words "circuit number 0\n")
-    (cond (eqb number 6) (words "an end that is not on the line\n")
+    (cond (eqb number 6) (endWords end)
     (cond (eqb number 7) (words "a circuit number that stands twice\n")
     (cond (eqb number 12) (words "a grid that is neither 1 nor 2\n") (words "\n"))))))
 
 -- after the line of a refusal: the line of the text where it stands, which is the header's for place 0, and the refusal in words
 abbrev pub explained : List ℕ → Line → Verdict → List ℕ
-explained text line v = ifRefused (refusalIn v) (λ r. lineWords (lineOfRecord text (r .place)) ++ refusalWords (line .grid) (r .number)) []
+explained text line v = ifRefused (refusalIn v) (λ r. lineWords (lineOfRecord text (r .place)) ++ refusalWords (line .grid) (r .number) (r .end)) []
 
 -- the sheet of circuit bytes s on a line, or its refusal with the line of the text
 unfoldable pub typedSheet : List ℕ → Line → List ℕ → List ℕ

@@ -36,7 +36,12 @@ fn write_answer(
             c.floor,
             out,
         ),
-        Answer::Refused { number, place } => sheet_text::write_refusal(number, place, out),
+        Answer::Refused { number, place, end } => sheet_text::write_refusal(
+            number,
+            place,
+            end,
+            out,
+        ),
     }
 }
 
@@ -72,7 +77,7 @@ fn write_unread(out: &mut [u8]) -> usize
     requires { ⌜ 147536 ≤ length (now out) ⌝ }
     ensures { λ r. ⌜ Wrote unread r (now (out .entry)) (now (out .exit)) ⌝ }
 {
-    sheet_text::write_refusal(11, 0, out)
+    sheet_text::write_refusal(11, 0, 0, out)
 }
 
 // What the sheet program prints, at the start of a buffer, from what reading its two files gave. What is told: its length.

@@ -8,13 +8,27 @@ ghost use Prim.Native.Nat.{_/_, _≤_};
 ghost use lib.ListN.{length};
 ghost use Rattle.refusals.specs.Table.{verdict, circuitRows};
 ghost use Rattle.text.specs.Wrote.{Wrote};
-ghost use Rattle.prints.specs.Typed.{refusalWords, explained, typedSheet, typedText, typed};
+ghost use Rattle.prints.specs.Typed.{endWords, refusalWords, explained, typedSheet, typedText, typed};
 ghost use Rattle.prints.specs.Reads.{fileRead, TextRead};
 
-// A refusal on a grid in words. What is told: how many bytes.
-fn write_refusal_words(grid: usize, number: u32, out: &mut [u8]) -> usize
+// Which end is wrong, in words. What is told: how many bytes.
+fn write_end_words(end: u32, out: &mut [u8]) -> usize
     requires { ⌜ 64 ≤ length (now out) ⌝ }
-    ensures { λ r. ⌜ Wrote (refusalWords grid number) r (now (out .entry)) (now (out .exit)) ⌝ }
+    ensures { λ r. ⌜ Wrote (endWords end) r (now (out .entry)) (now (out .exit)) ⌝ }
+{
+    if end == 1 {
+        return text::write_words(b"first link 0\n", out);
+    }
+    if end == 2 {
+        return text::write_words(b"first link past the last\n", out);
+    }
+    text::write_words(b"last link past the line\n", out)
+}
+
+// A refusal on a grid in words. What is told: how many bytes.
+fn write_refusal_words(grid: usize, number: u32, end: u32, out: &mut [u8]) -> usize
+    requires { ⌜ 64 ≤ length (now out) ⌝ }
+    ensures { λ r. ⌜ Wrote (refusalWords grid number end) r (now (out .entry)) (now (out .exit)) ⌝ }
 {
     if number == 3 {
         return text::write_words(b"not 1 to 512 links\n", out);
@@ -26,7 +40,7 @@ fn write_refusal_words(grid: usize, number: u32, out: &mut [u8]) -> usize
         return text::write_words(b"circuit number 0\n", out);
     }
     if number == 6 {
-        return text::write_words(b"an end that is not on the line\n", out);
+        return write_end_words(end, out);
     }
     if number == 7 {
         return text::write_words(b"a circuit number that stands twice\n", out);
@@ -44,10 +58,10 @@ fn write_explained(text: &[u8], line: Line, v: Verdict, out: &mut [u8]) -> usize
 {
     match v {
         Verdict::Checked(_) => 0,
-        Verdict::Refused { number, place } => {
+        Verdict::Refused { number, place, end } => {
             let l = entry_text::numbering::line_of_record(text, place as usize);
             let a = entry_text::messages::write_line_number(l, out);
-            a + write_refusal_words(line.grid, number, &mut out[a..])
+            a + write_refusal_words(line.grid, number, end, &mut out[a..])
         }
     }
 }

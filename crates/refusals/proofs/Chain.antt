@@ -15,10 +15,10 @@ use Rattle.refusals.proofs.Passed.{passed1, passed2, passed3}
 use Rattle.refusals.proofs.Pieces.{none-first, none-left, none-rest, none-right}
 
 -- a test that refused gives the verdict
-pub gives : (row : Row) (rows : List Row) (x z number place : ℕ) (t : Verdict) → t ≡ tested row z → t ≡ Refused number place → t ≡ verdict (row ∷ rows) x
+pub gives : (row : Row) (rows : List Row) (x z number place end : ℕ) (t : Verdict) → t ≡ tested row z → t ≡ Refused number place end → t ≡ verdict (row ∷ rows) x
 unfolding verdict
-gives none rows x z number place t a b = refused-not-checked (record { number = number; place = place }) z (sym b ∙ a)
-gives (some r) rows x z number place t a b = a
+gives none rows x z number place end t a b = refused-not-checked (record { number = number; place = place; end = end }) z (sym b ∙ a)
+gives (some r) rows x z number place end t a b = a
 
 -- after a test that passed the verdict is that of the rows after it
 pub leaves : (row : Row) (rows : List Row) (x z y : ℕ) (t u : Verdict) → t ≡ tested row z → t ≡ Checked y → u ≡ verdict rows x → u ≡ verdict (row ∷ rows) x
@@ -37,7 +37,7 @@ pub ruleset tests = (gives, leaves, accepts)
 -- what follows a verdict: a refusal stays, and else the next
 next : Verdict → Verdict → Verdict
 next (Checked y) u = u
-next (Refused number place) u = Refused number place
+next (Refused number place end) u = Refused number place end
 
 -- the verdict of two pieces
 verdict-append : (rs rows : List Row) (x z : ℕ) → verdict (rs ++ rows) x ≡ next (verdict rs z) (verdict rows x)
@@ -47,9 +47,9 @@ verdict-append (none ∷ rs) rows x z = verdict-append rs rows x z
 verdict-append (some r ∷ rs) rows x z = refl
 
 -- a piece that refused gives the verdict
-pub piece-gives : (rs rows : List Row) (x z number place : ℕ) (t : Verdict) → t ≡ verdict rs z → t ≡ Refused number place → t ≡ verdict (rs ++ rows) x
+pub piece-gives : (rs rows : List Row) (x z number place end : ℕ) (t : Verdict) → t ≡ verdict rs z → t ≡ Refused number place end → t ≡ verdict (rs ++ rows) x
 unfolding next
-piece-gives rs rows x z number place t a b = cc (verdict-append rs rows x z)
+piece-gives rs rows x z number place end t a b = cc (verdict-append rs rows x z)
 
 -- after a piece that passed the verdict is that of the pieces after it
 pub piece-leaves : (rs rows : List Row) (x z y : ℕ) (t u : Verdict) → t ≡ verdict rs z → t ≡ Checked y → u ≡ verdict rows x → u ≡ verdict (rs ++ rows) x

@@ -1,6 +1,6 @@
 -- What the first record that passes is, and which row of a table is given. Assumes nothing.
 use Prim.Native.Nat.{ℕ, zero, suc, _<_, _≤_}
-use mathlib.Core.Path.{_≡_, refl, ap, ap₂, _∙_, sym}
+use mathlib.Core.Path.{_≡_, refl, ap, _∙_, sym}
 use mathlib.Core.Bool.{Bool, true, false}
 use mathlib.Core.List.{List, [], _∷_}
 use mathlib.Core.Option.{none, some}
@@ -59,7 +59,8 @@ pub refused-same : (r q : Refusal) → refusedWith r ≡ refusedWith q → r ≡
 refused-same r q e =
     let a : r .number ≡ q .number = cc in
     let b : r .place ≡ q .place = cc in
-    ap₂ (λ (x y : ℕ). let z : Refusal = record { number = x; place = y } in z) a b
+    let c : r .end ≡ q .end = cc in
+    λ i. record { number = a i; place = b i; end = c i }
 
 -- a verdict that refuses is none that passed
 pub refused-not-checked : {A : Type 0} (r : Refusal) (x : ℕ) → refusedWith r ≡ Checked x → A
@@ -77,7 +78,7 @@ verdict-refused (some q ∷ rows) x r e = record {
   first = λ i h. absurd (omega arith);
 }
 
--- the first row that applies is refused with its number and place
+-- the first row that applies is refused with its number, place and end
 pub verdict-given : (rows : List Row) (x : ℕ) (r : Refusal) → Given rows r → verdict rows x ≡ refusedWith r
 verdict-given [] x r g = absurd (omega (arith, g .below))
 verdict-given (row ∷ rows) x r g = go (g .index) refl (verdict-given rows x r)

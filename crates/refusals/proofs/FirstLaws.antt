@@ -1,10 +1,11 @@
 -- Laws for a loop over records that stops at the first that passes. Assumes nothing.
-use Prim.Native.Nat.{ℕ, suc, _+_, _<_, _≤_}
+use Prim.Native.Nat.{ℕ, suc, _+_, _-_, _<_, _≤_}
 use mathlib.Core.Path.{_≡_, ap, _∙_, sym}
 use mathlib.Core.Bool.{Bool, true, false}
 use mathlib.Core.List.{List}
 use mathlib.Core.Option.{Option, none, some}
 use native.Mathlib.Omega.{arith}
+use native.Mathlib.Numerals.{add-one}
 use borrow.Author.Tests.{lt-ltb, le-ltb}
 use Rattle.basics.specs.Tools.{seek}
 use Rattle.basics.proofs.Bools.{by-eq}
@@ -38,12 +39,13 @@ module _ (p : ℕ → Bool) where
   none-more j before f i h = by-eq i j (λ e. rw e f) (λ e. before i (omega arith))
 
   -- the refusal of record j is what the test answers, if it is the first that passes
-  pub refused-at : (number m x j : ℕ) → j < m → p j ≡ true → ((i : ℕ) → i < j → p i ≡ false)
-      → Refused number (j + 1) ≡ tested (wherever number (firstRecord p m)) x
-  refused-at number m x j h t before =
-      ap (Refused number) (omega arith) ∙ sym (ap (λ (o : Option ℕ). tested (wherever number o) x) (first-hit m j h t before))
+  pub refused-at : (number : ℕ) (endAt : ℕ → ℕ) (m x j : ℕ) → j < m → p j ≡ true → ((i : ℕ) → i < j → p i ≡ false)
+      → Refused number (j + 1) (endAt j) ≡ tested (wherever number endAt (firstRecord p m)) x
+  refused-at number endAt m x j h t before =
+      let e : suc j - 1 ≡ j = omega arith in
+      (λ i. Refused number (add-one j i) (endAt (sym e i))) ∙ sym (ap (λ (o : Option ℕ). tested (wherever number endAt o) x) (first-hit m j h t before))
 
   -- a test in which no record passes answers what it found
-  pub checked-all : (number m x j : ℕ) → m ≤ j → ((i : ℕ) → i < j → p i ≡ false) → Checked x ≡ tested (wherever number (firstRecord p m)) x
-  checked-all number m x j h before =
-      sym (ap (λ (o : Option ℕ). tested (wherever number o) x) (first-end m (λ i l. before i (omega arith))))
+  pub checked-all : (number : ℕ) (endAt : ℕ → ℕ) (m x j : ℕ) → m ≤ j → ((i : ℕ) → i < j → p i ≡ false) → Checked x ≡ tested (wherever number endAt (firstRecord p m)) x
+  checked-all number endAt m x j h before =
+      sym (ap (λ (o : Option ℕ). tested (wherever number endAt o) x) (first-end m (λ i l. before i (omega arith))))

@@ -3,4 +3,5 @@ pub mod First
 pub mod Passed
 pub mod Chain
 pub mod Pieces
+pub mod EndLaws
 pub mod Cases

@@ -27,9 +27,9 @@ unless-none number true e = refl
 unless-none number false e = cc
 
 -- a row that applies to a record and does not apply: there is no such record
-pub wherever-none : (number : ℕ) (o : Option ℕ) → wherever number o ≡ none → o ≡ none
-wherever-none number none e = refl
-wherever-none number (some place) e = cc
+pub wherever-none : (number : ℕ) (endAt : ℕ → ℕ) (o : Option ℕ) → wherever number endAt o ≡ none → o ≡ none
+wherever-none number endAt none e = refl
+wherever-none number endAt (some place) e = cc
 
 -- 1: the circuit bytes are whole records
 pub passed1 : (s : List ℕ) → (row1 s) ≡ none → length s ≡ 8 * (length s / 8)
@@ -66,7 +66,7 @@ good-ends n c e =
 -- 6: every circuit lies on the line
 pub passed6 : (n : ℕ) (s : List ℕ) (m : ℕ) → (row6 n s m) ≡ none → (i : ℕ) → i < m
     → (1 ≤ (circuitOf (recordAt s i)) .first) × ((circuitOf (recordAt s i)) .first ≤ (circuitOf (recordAt s i)) .last) × ((circuitOf (recordAt s i)) .last ≤ n)
-passed6 n s m e i h = good-ends n (circuitOf (recordAt s i)) (record-none (λ i. badEnds n (circuitOf (recordAt s i))) m (wherever-none 6 _ e) i h)
+passed6 n s m e i h = good-ends n (circuitOf (recordAt s i)) (record-none (λ i. badEnds n (circuitOf (recordAt s i))) m (wherever-none 6 _ _ e) i h)
 
 -- a record that does not repeat has another number than each before it
 pub not-before : (s : List ℕ) (j : ℕ) → repeats s j ≡ false → (i : ℕ) → i < j → numberIn s i ≢ numberIn s j
@@ -77,8 +77,8 @@ not-before s j e i h = eqb-false (numberIn s i) (numberIn s j) (any-false (hasNu
 pub passed7 : (s : List ℕ) (m : ℕ) → (row7 s m) ≡ none → (i j : ℕ) → i < m → j < m → numberIn s i ≡ numberIn s j → i ≡ j
 passed7 s m e i j a b q =
     by-le i j
-    (λ l. by-le j i (λ g. omega arith) (λ g. absurd (not-before s j (record-none (repeats s) m (wherever-none 7 _ e) j b) i g q)))
-    (λ l. absurd (not-before s i (record-none (repeats s) m (wherever-none 7 _ e) i a) j l (sym q)))
+    (λ l. by-le j i (λ g. omega arith) (λ g. absurd (not-before s j (record-none (repeats s) m (wherever-none 7 _ _ e) j b) i g q)))
+    (λ l. absurd (not-before s i (record-none (repeats s) m (wherever-none 7 _ _ e) i a) j l (sym q)))
 
 -- 8 to 10: a lent area has the bytes that are needed
 pub passed-room : (number needed has : ℕ) → whenever number (ltb has needed) ≡ none → needed ≤ has

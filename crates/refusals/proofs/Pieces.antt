@@ -14,7 +14,7 @@ use Rattle.records.specs.Records.{recordAt, circuitOf, numberIn}
 use Rattle.records.specs.declared.Line.{Line}
 use Rattle.grid.specs.Frequencies.{isGrid, limitOf}
 use Rattle.refusals.specs.Refusals.{Refusal}
-use Rattle.refusals.specs.Table.{Row, whenever, wherever, firstRecord, badEnds, repeats, fileRows, lineRows, recordRows, circuitRows, areaRows, planTable}
+use Rattle.refusals.specs.Table.{Row, whenever, wherever, firstRecord, badEnds, wrongEnd, noEnd, repeats, fileRows, lineRows, recordRows, circuitRows, areaRows, planTable}
 use Rattle.refusals.specs.Given.{rowAt, Given, InOrder, NoneApplies}
 
 -- NONE APPLIES: no row of an empty table
@@ -58,9 +58,9 @@ whenever-gives x true r e = cc
 whenever-gives x false r e = absurd (let z : _≡_ {A = ℕ} 0 1 = cc in omega arith)
 
 -- a row that applies to a record gives its number
-wherever-gives : (x : ℕ) (o : Option ℕ) (r : Refusal) → wherever x o ≡ some r → r .number ≡ x
-wherever-gives x (some place) r e = cc
-wherever-gives x none r e = absurd (let z : _≡_ {A = ℕ} 0 1 = cc in omega arith)
+pub wherever-gives : (x : ℕ) (endAt : ℕ → ℕ) (o : Option ℕ) (r : Refusal) → wherever x endAt o ≡ some r → r .number ≡ x
+wherever-gives x endAt (some place) r e = cc
+wherever-gives x endAt none r e = absurd (let z : _≡_ {A = ℕ} 0 1 = cc in omega arith)
 
 -- two pieces, each in its order, stand in the order of both
 in-order-both : (xs ys : List ℕ) (rs rows : List Row) → InOrder xs rs → InOrder ys rows → InOrder (xs ++ ys) (rs ++ rows)
@@ -85,8 +85,8 @@ line-in-order line =
 record-in-order : (n m : ℕ) (s : List ℕ) → InOrder (5 ∷ 6 ∷ 7 ∷ []) (recordRows n m s)
 unfolding recordRows
 record-in-order n m s =
-    let six = wherever-gives 6 (firstRecord (λ i. badEnds n (circuitOf (recordAt s i))) m) in
-    (wherever-gives 5 (firstRecord (λ i. eqb (numberIn s i) 0) m), (six, (wherever-gives 7 (firstRecord (repeats s) m), tt)))
+    let six = wherever-gives 6 (λ i. wrongEnd n (circuitOf (recordAt s i))) (firstRecord (λ i. badEnds n (circuitOf (recordAt s i))) m) in
+    (wherever-gives 5 noEnd (firstRecord (λ i. eqb (numberIn s i) 0) m), (six, (wherever-gives 7 noEnd (firstRecord (repeats s) m), tt)))
 
 -- the lent areas
 area-in-order : (n m fibres assigns work : ℕ) → InOrder (8 ∷ 9 ∷ 10 ∷ []) (areaRows n m fibres assigns work)

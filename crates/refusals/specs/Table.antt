@@ -1,6 +1,6 @@
 -- The table of refusals, row by row, and which one is given. What a reader must believe.
 -- Assumes nothing.
-use Prim.Native.Nat.{ℕ, suc, _+_, _*_, _/_, _%_}
+use Prim.Native.Nat.{ℕ, suc, _+_, _-_, _*_, _/_, _%_}
 use mathlib.Core.Bool.{Bool, true, false, not, _&&_, _||_, cond}
 use mathlib.Core.List.{List, [], _∷_, _++_}
 use mathlib.Core.Option.{Option, none, some}
@@ -21,13 +21,17 @@ Row = Option Refusal
 
 -- a row that applies as a whole has place 0
 abbrev pub whenever : ℕ → Bool → Row
-whenever number true = some (record { number = number; place = 0 })
+whenever number true = some (record { number = number; place = 0; end = 0 })
 whenever number false = none
 
--- a row that applies to a record has that record's place
-abbrev pub wherever : ℕ → Option ℕ → Row
-wherever number (some place) = some (record { number = number; place = place })
-wherever number none = none
+-- a row that applies to a record has that record's place, and tells which of its ends is wrong
+abbrev pub wherever : ℕ → (ℕ → ℕ) → Option ℕ → Row
+wherever number endAt (some place) = some (record { number = number; place = place; end = endAt (place - 1) })
+wherever number endAt none = none
+
+-- a row that is not about ends tells 0 of each record
+abbrev pub noEnd : ℕ → ℕ
+noEnd i = 0
 
 -- the first of the first m records for which p holds, counted from 1
 unfoldable pub firstRecord : (ℕ → Bool) → ℕ → Option ℕ
@@ -36,6 +40,10 @@ firstRecord p m = cond (ltb (seek p 0 m) m) (some (suc (seek p 0 m))) none
 -- first link 0, or first past last, or last past n
 unfoldable pub badEnds : ℕ → Circuit → Bool
 badEnds n c = eqb (c .first) 0 || ltb (c .last) (c .first) || ltb n (c .last)
+
+-- which end is wrong, tested in this order: 1, first link 0; 2, first past last; 3, last past n; 0, none
+unfoldable pub wrongEnd : ℕ → Circuit → ℕ
+wrongEnd n c = cond (eqb (c .first) 0) 1 (cond (ltb (c .last) (c .first)) 2 (cond (ltb n (c .last)) 3 0))
 
 -- record i has the number x
 abbrev pub hasNumber : List ℕ → ℕ → ℕ → Bool
@@ -67,15 +75,15 @@ row12 grid = whenever 12 (not (isGrid grid))
 
 -- 5: a circuit number is 0
 abbrev pub row5 : List ℕ → ℕ → Row
-row5 s m = wherever 5 (firstRecord (λ i. eqb (numberIn s i) 0) m)
+row5 s m = wherever 5 noEnd (firstRecord (λ i. eqb (numberIn s i) 0) m)
 
--- 6: first link 0, or first past last, or last past n
+-- 6: first link 0, or first past last, or last past n; the first record with any of them, and the first of them that it has
 abbrev pub row6 : ℕ → List ℕ → ℕ → Row
-row6 n s m = wherever 6 (firstRecord (λ i. badEnds n (circuitOf (recordAt s i))) m)
+row6 n s m = wherever 6 (λ i. wrongEnd n (circuitOf (recordAt s i))) (firstRecord (λ i. badEnds n (circuitOf (recordAt s i))) m)
 
 -- 7: a circuit number stands twice
 abbrev pub row7 : List ℕ → ℕ → Row
-row7 s m = wherever 7 (firstRecord (repeats s) m)
+row7 s m = wherever 7 noEnd (firstRecord (repeats s) m)
 
 -- 8: fibre list shorter than 8 × circuits bytes, as R-1 has it
 abbrev pub row8 : ℕ → ℕ → Row

@@ -1,19 +1,19 @@
-// The tests, one function each: what is refused, with which number and place; and the chains of them that operations share.
+// The tests, one function each: what is refused, with which number and place, and which end is wrong; and the chains of them that operations share.
 ghost use mathlib.Core.Path.{_≡_};
 ghost use Prim.Native.Nat.{_+_, _*_, _/_, _≤_, _<_};
 ghost use mathlib.Core.Bool.{not, _&&_};
 ghost use lib.ListN.{length};
 ghost use lib.Dec.{leb, ltb};
 ghost use Rattle.grid.specs.Frequencies.{limitOf};
-ghost use Rattle.refusals.specs.Table.{whenever, badEnds, tested, row1, row2, row3, row4, row5, row6, row7, row8, row9, row10, row12};
+ghost use Rattle.refusals.specs.Table.{whenever, wrongEnd, tested, row1, row2, row3, row4, row5, row6, row7, row8, row9, row10, row12};
 ghost use Rattle.refusals.specs.inner.Remainders.{remainderOf};
 
 pub mod admit;
 
-// What a test answers, or a chain of tests: passed, with a number that it found, or refused, with number and place.
+// What a test answers, or a chain of tests: passed, with a number that it found, or refused, with number, place and which end is wrong.
 pub enum Verdict {
     Checked(usize),
-    Refused { number: u32, place: u32 },
+    Refused { number: u32, place: u32, end: u32 },
 }
 
 // 1: whole records. What is found: how many.
@@ -25,6 +25,7 @@ pub fn whole(circuits: &[u8]) -> Verdict
         return Verdict::Refused {
             number: 1,
             place: 0,
+            end: 0,
         };
     }
     Verdict::Checked(l / 8)
@@ -38,6 +39,7 @@ pub fn few(m: usize) -> Verdict
         return Verdict::Refused {
             number: 2,
             place: 0,
+            end: 0,
         };
     }
     Verdict::Checked(m)
@@ -48,10 +50,18 @@ fn within(number: u32, x: usize, limit: usize) -> Verdict
     ensures { λ r. ⌜ r ≡ tested (whenever number (not (leb 1 x && leb x limit))) x ⌝ }
 {
     if x < 1 {
-        return Verdict::Refused { number, place: 0 };
+        return Verdict::Refused {
+            number,
+            place: 0,
+            end: 0,
+        };
     }
     if limit < x {
-        return Verdict::Refused { number, place: 0 };
+        return Verdict::Refused {
+            number,
+            place: 0,
+            end: 0,
+        };
     }
     Verdict::Checked(x)
 }
@@ -73,6 +83,7 @@ pub fn known_grid(grid: usize) -> Verdict
     Verdict::Refused {
         number: 12,
         place: 0,
+        end: 0,
     }
 }
 
@@ -94,23 +105,27 @@ pub fn numbered(circuits: &[u8], m: usize) -> Verdict
             return Verdict::Refused {
                 number: 5,
                 place: (j + 1) as u32,
+                end: 0,
             };
         }
     }
     Verdict::Checked(m)
 }
 
-// Whether a circuit does not lie on a line of n links.
-fn bad_ends(c: records::Circuit, n: usize) -> bool
-    ensures { λ r. ⌜ r ≡ badEnds n c ⌝ }
+// Which end of a circuit is wrong on a line of n links, or 0.
+fn wrong_end(c: records::Circuit, n: usize) -> u32
+    ensures { λ r. ⌜ r ≡ wrongEnd n c ⌝ }
 {
     if c.first == 0 {
-        return true;
+        return 1;
     }
     if c.last < c.first {
-        return true;
+        return 2;
     }
-    n < records::numbers::index(c.last)
+    if n < records::numbers::index(c.last) {
+        return 3;
+    }
+    0
 }
 
 // 6: every circuit lies on the line of n links.
@@ -120,10 +135,12 @@ pub fn on_line(circuits: &[u8], m: usize, n: usize) -> Verdict
 {
     for j in 0..m {
         let c = records::circuit_at(circuits, j);
-        if bad_ends(c, n) {
+        let end = wrong_end(c, n);
+        if 0 < end {
             return Verdict::Refused {
                 number: 6,
                 place: (j + 1) as u32,
+                end,
             };
         }
     }
@@ -167,6 +184,7 @@ pub fn unlike(circuits: &[u8], m: usize) -> Verdict
     Verdict::Refused {
         number: 7,
         place: place as u32,
+        end: 0,
     }
 }
 
@@ -175,7 +193,11 @@ fn room(number: u32, needed: usize, has: usize) -> Verdict
     ensures { λ r. ⌜ r ≡ tested (whenever number (ltb has needed)) has ⌝ }
 {
     if has < needed {
-        return Verdict::Refused { number, place: 0 };
+        return Verdict::Refused {
+            number,
+            place: 0,
+            end: 0,
+        };
     }
     Verdict::Checked(has)
 }

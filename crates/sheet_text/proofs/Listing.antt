@@ -30,6 +30,6 @@ unfolding totalLine line fields decimal decimalIn words codes
 totals-listed = refl
 
 -- no files
-pub no-files : refusalLine (record { number = 11; place = 0 }) ≡ words "R 11 0\n"
+pub no-files : refusalLine (record { number = 11; place = 0; end = 0 }) ≡ words "R 11 0 0\n"
 unfolding refusalLine line fields decimal decimalIn words codes
 no-files = refl

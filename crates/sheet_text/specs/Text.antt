@@ -31,9 +31,9 @@ circuitLine grid a = line 67 (a .circuit ∷ a .fibre ∷ a .wavelength ∷ natA
 unfoldable pub totalLine : ℕ → ℕ → ℕ → List ℕ
 totalLine fibres total floor = line 84 (fibres ∷ total ∷ floor ∷ [])
 
--- R: number, place
+-- R: number, place, which end is wrong
 unfoldable pub refusalLine : Refusal → List ℕ
-refusalLine r = line 82 (r .number ∷ r .place ∷ [])
+refusalLine r = line 82 (r .number ∷ r .place ∷ r .end ∷ [])
 
 -- the lines of the first k fibre records
 unfoldable pub fibreLines : ℕ → List ℕ → List ℕ

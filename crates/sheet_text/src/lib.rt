@@ -9,11 +9,11 @@ mod lines;
 mod lists;
 
 // The one line of a refusal, at the start of the buffer. What is told: its length.
-pub fn write_refusal(number: u32, place: u32, out: &mut [u8]) -> usize
-    requires { ⌜ 64 ≤ length (now out) ⌝ }
-    ensures { λ r. ⌜ Wrote (refusalLine (record { number = number; place = place })) r (now (out .entry)) (now (out .exit)) ⌝ }
+pub fn write_refusal(number: u32, place: u32, end: u32, out: &mut [u8]) -> usize
+    requires { ⌜ 80 ≤ length (now out) ⌝ }
+    ensures { λ r. ⌜ Wrote (refusalLine (record { number = number; place = place; end = end })) r (now (out .entry)) (now (out .exit)) ⌝ }
 {
-    lines::write_two(82, number as usize, place as usize, out)
+    lines::write_three(82, number as usize, place as usize, end as usize, out)
 }
 
 // The sheet of k fibre records and m assignment records on a grid, at the start of the buffer. What is told: its length.

@@ -9,18 +9,6 @@ use crate::fields;
 use records::AssignmentRecord;
 use records::FibreRecord;
 
-// A line of two fields. What is told: its length.
-pub fn write_two(letter: u8, x: usize, y: usize, out: &mut [u8]) -> usize
-    requires { ⌜ 4 + length (decimal x) + length (decimal y) ≤ length (now out) ⌝ }
-    ensures { λ r. ⌜ (r ≡ length (line letter (x ∷ y ∷ []))) × (now (out .exit) ≡ line letter (x ∷ y ∷ []) ++ drop r (now (out .entry)))
-        × (r ≡ 4 + length (decimal x) + length (decimal y)) ⌝ }
-{
-    text::write_byte(letter, out);
-    let n = 1 + fields::write_pair(x, y, &mut out[1..]);
-    out[n] = 10;
-    n + 1
-}
-
 // A line of three fields. What is told: its length.
 pub fn write_three(letter: u8, x: usize, y: usize, z: usize, out: &mut [u8]) -> usize
     requires { ⌜ 5 + length (decimal x) + length (decimal y) + length (decimal z) ≤ length (now out) ⌝ }

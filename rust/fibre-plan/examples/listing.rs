@@ -1,5 +1,6 @@
 //! Plans four circuits on five links with two wavelengths, and prints the sheet.
-use fibre_plan::{plan, Circuit, Grid, Line, Plan, Refusal};
+use fibre_plan::{plan, Circuit, Grid, Line, Plan};
+use std::process::ExitCode;
 
 fn print(plan: &Plan, grid: Grid) {
     for f in &plan.fibres {
@@ -16,7 +17,7 @@ fn print(plan: &Plan, grid: Grid) {
     println!("T {} {} {}", plan.fibres.len(), plan.total, plan.floor);
 }
 
-fn main() -> Result<(), Refusal> {
+fn main() -> ExitCode {
     let circuits =
         [(10, 1, 3), (20, 2, 5), (30, 1, 2), (40, 4, 5)].map(|(number, first, last)| Circuit {
             number,
@@ -28,6 +29,15 @@ fn main() -> Result<(), Refusal> {
         wavelengths: 2,
         grid: Grid::Ghz100,
     };
-    print(&plan(line, &circuits)?, line.grid);
-    Ok(())
+    match plan(line, &circuits) {
+        Ok(plan) => {
+            print(&plan, line.grid);
+            ExitCode::SUCCESS
+        }
+        Err(refused) => {
+            let (number, place, end) = (refused.number(), refused.place(), refused.end());
+            println!("R {number} {place} {end}");
+            ExitCode::FAILURE
+        }
+    }
 }

@@ -5,6 +5,7 @@
 pub struct PlanAnswer {
     pub refusal: u32,
     pub place: u32,
+    pub end: u32,
     pub fibres: usize,
     pub total: usize,
     pub floor: usize,
@@ -62,9 +63,9 @@ mod tests {
     const CIRCUIT: [u8; 8] = [7, 0, 0, 0, 1, 0, 1, 0];
 
     #[test]
-    fn a_plan_has_no_refusal_and_no_place() {
+    fn a_plan_has_no_refusal_no_place_and_no_end() {
         let answer = call(1, 1, 1, &CIRCUIT, &mut [1; 8], &mut [1; 8], &mut [1; 8]);
-        assert_eq!((answer.refusal, answer.place), (0, 0));
+        assert_eq!((answer.refusal, answer.place, answer.end), (0, 0, 0));
         assert_eq!((answer.fibres, answer.total, answer.floor), (1, 1, 1));
     }
 
@@ -72,7 +73,17 @@ mod tests {
     fn a_refusal_has_three_zeros() {
         let file = [CIRCUIT, CIRCUIT].concat();
         let answer = call(1, 1, 1, &file, &mut [1; 16], &mut [1; 16], &mut [1; 12]);
-        assert_eq!((answer.refusal, answer.place), (7, 2));
+        assert_eq!((answer.refusal, answer.place, answer.end), (7, 2, 0));
         assert_eq!((answer.fibres, answer.total, answer.floor), (0, 0, 0));
+    }
+
+    #[test]
+    fn refusal_6_has_an_end_and_three_zeros() {
+        for (first, last, end) in [(0, 9, 1), (9, 8, 2), (5, 6, 3)] {
+            let file = [CIRCUIT, [8, 0, 0, 0, first, 0, last, 0]].concat();
+            let answer = call(5, 1, 1, &file, &mut [1; 16], &mut [1; 16], &mut [1; 28]);
+            assert_eq!((answer.refusal, answer.place, answer.end), (6, 2, end));
+            assert_eq!((answer.fibres, answer.total, answer.floor), (0, 0, 0));
+        }
     }
 }

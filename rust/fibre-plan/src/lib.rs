@@ -37,7 +37,7 @@ mod refusal;
 
 pub use grid::Grid;
 pub use records::{Assignment, Circuit, Fibre, RECORD_BYTES};
-pub use refusal::Refusal;
+pub use refusal::{End, Refusal};
 
 /// The most links that a line may have.
 pub const MAX_LINKS: usize = 512;
@@ -99,13 +99,15 @@ pub const fn work_bytes(links: usize, circuits: usize) -> usize {
 /// Plans circuits on a line.
 ///
 /// ```
-/// use fibre_plan::{plan, Circuit, Grid, Line, Refusal};
+/// use fibre_plan::{plan, Circuit, End, Grid, Line, Refusal};
 ///
 /// let line = Line { links: 5, wavelengths: 80, grid: Grid::Ghz50 };
-/// let past_the_end = [Circuit { number: 7, first: 5, last: 6 }];
-/// assert_eq!(plan(line, &past_the_end), Err(Refusal::Ends { place: 1 }));
+/// let past_the_line = [Circuit { number: 7, first: 5, last: 6 }];
+/// let refused = plan(line, &past_the_line).unwrap_err();
+/// assert_eq!(refused, Refusal::Ends { place: 1, end: End::LastPastLine });
+/// assert_eq!(refused.to_string(), "refusal 6, record 1: last link past the line");
 /// let line = Line { grid: Grid::Ghz100, ..line };
-/// assert_eq!(plan(line, &past_the_end), Err(Refusal::Wavelengths));
+/// assert_eq!(plan(line, &past_the_line), Err(Refusal::Wavelengths));
 /// ```
 ///
 /// # Errors
@@ -154,6 +156,10 @@ pub fn plan(line: Line, circuits: &[Circuit]) -> Result<Plan, Refusal> {
 /// assert_eq!(assignments, [7, 0, 0, 0, 1, 0, 1, 0]);
 /// let refused = plan_bytes(1, 1, 3, &circuits, &mut fibres, &mut assignments, &mut work);
 /// assert_eq!(refused, Err(Refusal::Grid));
+/// let backwards = [7, 0, 0, 0, 1, 0, 0, 0];
+/// let refused = plan_bytes(1, 1, 1, &backwards, &mut fibres, &mut assignments, &mut work);
+/// let numbers = refused.map_err(|r| (r.number(), r.place(), r.end()));
+/// assert_eq!(numbers, Err((6, 1, 2)));
 /// # Ok::<(), Refusal>(())
 /// ```
 ///
@@ -184,6 +190,10 @@ pub fn plan_bytes(
             total: answer.total,
             floor: answer.floor,
         }),
-        number => Err(Refusal::from_table(number, answer.place as usize)),
+        number => Err(Refusal::from_table(
+            number,
+            answer.place as usize,
+            answer.end,
+        )),
     }
 }

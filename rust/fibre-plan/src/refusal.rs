@@ -2,6 +2,43 @@
 use std::error::Error;
 use std::fmt;
 
+/// Which end of a circuit is wrong: the first of these that applies to it.
+#[derive(Clone, Copy, Debug, PartialEq, Eq, Hash)]
+pub enum End {
+    /// 1: the first link is 0.
+    FirstZero,
+    /// 2: the first link is past the last.
+    FirstPastLast,
+    /// 3: the last link is past the line.
+    LastPastLine,
+}
+
+impl End {
+    /// Its number in the table.
+    pub const fn number(self) -> u32 {
+        match self {
+            Self::FirstZero => 1,
+            Self::FirstPastLast => 2,
+            Self::LastPastLine => 3,
+        }
+    }
+
+    /// What is wrong.
+    const fn text(self) -> &'static str {
+        match self {
+            Self::FirstZero => "first link 0",
+            Self::FirstPastLast => "first link past the last",
+            Self::LastPastLine => "last link past the line",
+        }
+    }
+}
+
+impl fmt::Display for End {
+    fn fmt(&self, f: &mut fmt::Formatter<'_>) -> fmt::Result {
+        f.write_str(self.text())
+    }
+}
+
 /// Why an input was refused. A place is that of a circuit, counted from 1.
 #[derive(Clone, Copy, Debug, PartialEq, Eq, Hash)]
 #[non_exhaustive]
@@ -21,10 +58,12 @@ pub enum Refusal {
         /// The first such record.
         place: usize,
     },
-    /// 6: a first link is 0, or past the last link, or the last link is past the line's end.
+    /// 6: a first link is 0, or past the last link, or the last link is past the line.
     Ends {
         /// The first such record.
         place: usize,
+        /// Which of the three it is.
+        end: End,
     },
     /// 7: a circuit number stands twice.
     Repeated {
@@ -37,31 +76,36 @@ pub enum Refusal {
     AssignmentRoom,
     /// 10: the work area has fewer than 4 bytes a link and 4 bytes a circuit.
     WorkRoom,
-    /// A refusal of an archive that is newer than this crate.
+    /// What this crate's table does not have: the archive is newer.
     Other {
         /// Its number.
         number: u32,
         /// Its place.
         place: usize,
+        /// Its end.
+        end: u32,
     },
 }
 
 impl Refusal {
-    /// The refusal with a number and a place of the table.
-    pub(crate) fn from_table(number: u32, place: usize) -> Self {
-        match number {
-            1 => Self::Records,
-            2 => Self::Circuits,
-            3 => Self::Links,
-            4 => Self::Wavelengths,
-            5 => Self::Zero { place },
-            6 => Self::Ends { place },
-            7 => Self::Repeated { place },
-            8 => Self::FibreRoom,
-            9 => Self::AssignmentRoom,
-            10 => Self::WorkRoom,
-            12 => Self::Grid,
-            _ => Self::Other { number, place },
+    /// The refusal with a number, a place and an end of the table; none of the three is lost.
+    pub(crate) fn from_table(number: u32, place: usize, end: u32) -> Self {
+        let at = |end| Self::Ends { place, end };
+        match (number, place, end) {
+            (1, 0, 0) => Self::Records,
+            (2, 0, 0) => Self::Circuits,
+            (3, 0, 0) => Self::Links,
+            (4, 0, 0) => Self::Wavelengths,
+            (5, _, 0) => Self::Zero { place },
+            (6, _, 1) => at(End::FirstZero),
+            (6, _, 2) => at(End::FirstPastLast),
+            (6, _, 3) => at(End::LastPastLine),
+            (7, _, 0) => Self::Repeated { place },
+            (8, 0, 0) => Self::FibreRoom,
+            (9, 0, 0) => Self::AssignmentRoom,
+            (10, 0, 0) => Self::WorkRoom,
+            (12, 0, 0) => Self::Grid,
+            _ => Self::Other { number, place, end },
         }
     }
 
@@ -87,9 +131,18 @@ impl Refusal {
     pub fn place(self) -> usize {
         match self {
             Self::Zero { place }
-            | Self::Ends { place }
+            | Self::Ends { place, .. }
             | Self::Repeated { place }
             | Self::Other { place, .. } => place,
+            _ => 0,
+        }
+    }
+
+    /// The number of the end that is wrong, 1, 2 or 3 as [`End::number`], or 0 where it is not refusal 6.
+    pub fn end(self) -> u32 {
+        match self {
+            Self::Ends { end, .. } => end.number(),
+            Self::Other { end, .. } => end,
             _ => 0,
         }
     }
@@ -105,7 +158,7 @@ impl Refusal {
                 "the number of wavelengths is not 1 to 40, on grid 1, or 1 to 80, on grid 2"
             }
             Self::Zero { .. } => "its number is 0",
-            Self::Ends { .. } => "its ends are not two links of the line, in order",
+            Self::Ends { end, .. } => end.text(),
             Self::Repeated { .. } => "its number stands twice",
             Self::FibreRoom => "the fibre list is too short",
             Self::AssignmentRoom => "the assignment list is too short",
@@ -130,3 +183,21 @@ impl fmt::Display for Refusal {
 }
 
 impl Error for Refusal {}
+
+#[cfg(test)]
+mod tests {
+    use super::Refusal;
+
+    #[test]
+    fn each_number_is_handed_on() {
+        for number in 1..=13 {
+            for place in [0, 1, 2048] {
+                for end in 0..=4 {
+                    let refusal = Refusal::from_table(number, place, end);
+                    let numbers = (refusal.number(), refusal.place(), refusal.end());
+                    assert_eq!(numbers, (number, place, end));
+                }
+            }
+        }
+    }
+}

@@ -1,5 +1,5 @@
 //! The typed function says what the byte level says.
-use fibre_plan::{plan, plan_bytes, Assignment, Circuit, Fibre, Grid, Line, Refusal};
+use fibre_plan::{plan, plan_bytes, Assignment, Circuit, End, Fibre, Grid, Line, Refusal};
 use inputs::{encode, Family, Numbers, Rng};
 
 fn circuits(list: &[(u32, u16, u16)]) -> Vec<Circuit> {
@@ -97,6 +97,24 @@ fn refusals() {
 }
 
 #[test]
+fn which_end_is_wrong() {
+    for (first, last, end) in [
+        (0, 1, End::FirstZero),
+        (0, 0, End::FirstZero),
+        (0, 9, End::FirstZero),
+        (3, 2, End::FirstPastLast),
+        (9, 8, End::FirstPastLast),
+        (5, 6, End::LastPastLine),
+        (6, 6, End::LastPastLine),
+    ] {
+        let list = circuits(&[(1, 1, 5), (2, first, last), (3, 0, 0)]);
+        let refused = Refusal::Ends { place: 2, end };
+        assert_eq!(plan(line(5, 2), &list), Err(refused));
+        assert_eq!(refused.end(), end.number());
+    }
+}
+
+#[test]
 fn the_limit_of_each_grid() {
     for (grid, limit) in GRIDS.into_iter().zip([40, 80]) {
         assert_eq!(grid.max_wavelengths(), limit);
@@ -125,10 +143,15 @@ fn numbers_and_frequencies_of_each_grid() {
 
 #[test]
 fn refusals_as_text() {
-    assert_eq!(
-        Refusal::Ends { place: 3 }.to_string(),
-        "refusal 6, record 3: its ends are not two links of the line, in order"
-    );
+    for (end, text) in [
+        (End::FirstZero, "first link 0"),
+        (End::FirstPastLast, "first link past the last"),
+        (End::LastPastLine, "last link past the line"),
+    ] {
+        let refused = Refusal::Ends { place: 3, end };
+        let told = format!("refusal 6, record 3: {text}");
+        assert_eq!([end.to_string(), refused.to_string()], [text, &told]);
+    }
     assert_eq!(
         Refusal::WorkRoom.to_string(),
         "refusal 10: the work area is too short"

@@ -25,7 +25,11 @@ pub fn random_line(seed: u64) -> (Line, Vec<Circuit>) {
         0 => line.n = [0, 513, 600][rng.within(0, 2)],
         1 => line.w = [0, 41, 81, 256][rng.within(0, 3)],
         2 if !circuits.is_empty() => circuits[at].0 = 0,
-        3 if !circuits.is_empty() => circuits[at].2 = n + 1,
+        3 if !circuits.is_empty() => {
+            let (number, first, last) = circuits[at];
+            let (first, last) = [(0, last), (n + 1, last), (first, n + 1)][rng.within(0, 2)];
+            circuits[at] = (number, first, last);
+        }
         4 if !circuits.is_empty() => circuits[at].0 = circuits[0].0,
         5 => line.grid = [0, 3, 257, 65_535].map(Some)[rng.within(0, 3)],
         _ => (),

@@ -26,7 +26,7 @@ pub fn sheet_of(line: impl Into<Line>, circuits: &[u8]) -> String {
     );
     let counts = match planned {
         Ok(counts) => counts,
-        Err(refused) => return format!("R {} {}\n", refused.number, refused.place),
+        Err(refused) => return format!("R {} {} {}\n", refused.number, refused.place, refused.end),
     };
     let mut text = String::new();
     for record in fibres.chunks_exact(8).take(counts.fibres) {

@@ -221,7 +221,7 @@ fn a_folder_at_the_name_of_the_old_line() {
             assert!(folder.entries() == files_of((5, 2), &LISTING));
         } else {
             assert_eq!(out, NOT_REPLACED);
-            let refused = run("sheet", &folder, b"") == "R 11 0\n";
+            let refused = run("sheet", &folder, b"") == "R 11 0 0\n";
             assert!(refused || folder.entries() == before);
         }
     }

@@ -91,7 +91,7 @@ fn ended_at_each_call(ready: impl Fn(&Folder)) {
     let just_new = Folder::with_records((5, 2, 2), &new).entries();
     let sheets = [
         sheet_of((9, 3), &old),
-        "R 11 0\n".to_owned(),
+        "R 11 0 0\n".to_owned(),
         sheet_of((5, 2, 2), &new),
     ];
     // Which of the three a folder has, from the first call to the last.

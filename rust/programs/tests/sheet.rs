@@ -4,7 +4,7 @@ use programs::texts::LISTING;
 use programs::{assert_same, random_line, run, run_as_nobody, sheet_of, Folder, Line};
 
 /// What is printed where a file cannot be had.
-const UNREAD: &str = "R 11 0\n";
+const UNREAD: &str = "R 11 0 0\n";
 
 /// The most bytes of the circuit file that are read.
 const READ: usize = 16_392;
@@ -127,17 +127,17 @@ fn a_line_file_comes_before_all_refusals() {
 fn the_length_of_the_circuit_file() {
     let bytes = [encode(&high_numbers(2050)), vec![0; 100_000]].concat();
     let lengths = [
-        (1, "R 1 0\n"),
-        (7, "R 1 0\n"),
-        (9, "R 1 0\n"),
-        (16_383, "R 1 0\n"),
-        (16_385, "R 1 0\n"),
-        (16_391, "R 1 0\n"),
-        (16_392, "R 2 0\n"),
-        (16_393, "R 2 0\n"),
-        (16_399, "R 2 0\n"),
-        (16_400, "R 2 0\n"),
-        (100_000, "R 2 0\n"),
+        (1, "R 1 0 0\n"),
+        (7, "R 1 0 0\n"),
+        (9, "R 1 0 0\n"),
+        (16_383, "R 1 0 0\n"),
+        (16_385, "R 1 0 0\n"),
+        (16_391, "R 1 0 0\n"),
+        (16_392, "R 2 0 0\n"),
+        (16_393, "R 2 0 0\n"),
+        (16_399, "R 2 0 0\n"),
+        (16_400, "R 2 0 0\n"),
+        (100_000, "R 2 0 0\n"),
     ];
     for (length, text) in lengths {
         assert_eq!(prints_sheet((1, 40), &bytes[..length]), text, "{length}");
@@ -192,71 +192,77 @@ fn the_longest_lines() {
 fn each_refusal_and_its_place() {
     let mut records = encode(&LISTING);
     records.push(0);
-    assert_eq!(prints_sheet((5, 2), &records), "R 1 0\n");
-    prints_for((1, 1), &high_numbers(2049), "R 2 0\n");
+    assert_eq!(prints_sheet((5, 2), &records), "R 1 0 0\n");
+    prints_for((1, 1), &high_numbers(2049), "R 2 0 0\n");
     for n in [0, 513, 65_535] {
-        prints_for((n, 2), &LISTING, "R 3 0\n");
+        prints_for((n, 2), &LISTING, "R 3 0 0\n");
     }
     for grid in [0, 3, 50, 257, 258, 512, 65_535] {
-        prints_for((5, 2, grid), &LISTING, "R 12 0\n");
+        prints_for((5, 2, grid), &LISTING, "R 12 0 0\n");
     }
     for w in [0, 41, 80, 65_535] {
-        prints_for((5, w), &LISTING, "R 4 0\n");
-        prints_for((5, w, 1), &LISTING, "R 4 0\n");
+        prints_for((5, w), &LISTING, "R 4 0 0\n");
+        prints_for((5, w, 1), &LISTING, "R 4 0 0\n");
     }
     for w in [0, 81, 65_535] {
-        prints_for((5, w, 2), &LISTING, "R 4 0\n");
+        prints_for((5, w, 2), &LISTING, "R 4 0 0\n");
     }
     prints_for(
         (5, 2),
         &[(1, 1, 1), (2, 1, 1), (0, 1, 1), (0, 1, 1)],
-        "R 5 3\n",
+        "R 5 3 0\n",
     );
-    for ends in [
-        (0, 1),
-        (0, 0),
-        (3, 2),
-        (5, 6),
-        (6, 6),
-        (1, 65_535),
-        (65_535, 65_535),
-    ] {
-        prints_for((5, 2), &[(1, 1, 1), (2, ends.0, ends.1)], "R 6 2\n");
-    }
-    prints_for((5, 2), &[(4, 1, 1), (4, 1, 1), (4, 1, 1)], "R 7 2\n");
+    prints_for((5, 2), &[(4, 1, 1), (4, 1, 1), (4, 1, 1)], "R 7 2 0\n");
     prints_for(
         (5, 2),
         &[(4, 1, 1), (9, 1, 1), (8, 1, 1), (9, 2, 3)],
-        "R 7 4\n",
+        "R 7 4 0\n",
     );
+}
+
+#[test]
+fn each_wrong_end() {
+    for (end, wrong) in [
+        (1, &[(0, 1), (0, 0), (0, 6), (0, 65_535)][..]),
+        (2, &[(3, 2), (1, 0), (6, 5), (9, 8), (65_535, 1)]),
+        (3, &[(5, 6), (6, 6), (1, 65_535), (65_535, 65_535)]),
+    ] {
+        for &(first, last) in wrong {
+            let text = format!("R 6 2 {end}\n");
+            prints_for((5, 2), &[(1, 1, 1), (2, first, last)], &text);
+            // The first record with a wrong end, whatever is wrong with a later one.
+            let list = [(1, 1, 1), (2, first, last), (3, 0, 1), (4, 5, 6)];
+            prints_for((5, 2), &list, &text);
+        }
+    }
 }
 
 #[test]
 fn the_first_refusal_is_given() {
     // From the last refusal of a file to the first: each input has all those of the inputs before.
-    prints_for((5, 2), &[(3, 1, 1), (3, 2, 2)], "R 7 2\n");
-    prints_for((5, 2), &[(3, 1, 1), (3, 2, 6)], "R 6 2\n");
-    prints_for((5, 2), &[(3, 1, 1), (3, 2, 6), (0, 1, 1)], "R 5 3\n");
-    prints_for((5, 41), &[(3, 1, 1), (3, 2, 6), (0, 1, 1)], "R 4 0\n");
-    prints_for((5, 41, 3), &[(3, 1, 1), (3, 2, 6), (0, 1, 1)], "R 12 0\n");
-    prints_for((0, 41, 3), &[(3, 1, 1), (3, 2, 6), (0, 1, 1)], "R 3 0\n");
-    prints_for((0, 41, 3), &vec![(0, 2, 1); 2049], "R 2 0\n");
-    assert_eq!(prints_sheet((0, 41, 3), &[0; 16_391]), "R 1 0\n");
+    prints_for((5, 2), &[(3, 1, 1), (3, 2, 2)], "R 7 2 0\n");
+    prints_for((5, 2), &[(3, 1, 1), (3, 2, 6)], "R 6 2 3\n");
+    prints_for((5, 2), &[(3, 1, 1), (3, 2, 6), (0, 1, 1)], "R 5 3 0\n");
+    prints_for((5, 41), &[(3, 1, 1), (3, 2, 6), (0, 1, 1)], "R 4 0 0\n");
+    prints_for((5, 41, 3), &[(3, 1, 1), (3, 2, 6), (0, 1, 1)], "R 12 0 0\n");
+    prints_for((0, 41, 3), &[(3, 1, 1), (3, 2, 6), (0, 1, 1)], "R 3 0 0\n");
+    prints_for((0, 41, 3), &vec![(0, 2, 1); 2049], "R 2 0 0\n");
+    assert_eq!(prints_sheet((0, 41, 3), &[0; 16_391]), "R 1 0 0\n");
 }
 
 #[test]
 fn n_w_and_grid_are_told_apart() {
-    prints_for((2, 5), &LISTING, "R 6 1\n");
+    prints_for((2, 5), &LISTING, "R 6 1 3\n");
     let list = [(1, 1, 2), (2, 1, 1), (3, 2, 2), (4, 1, 2)];
     let [five, two] = [(5, 2), (2, 5)].map(|line| prints_sheet(line, &encode(&list)));
     assert_ne!(five, two);
     prints_for((41, 40), &[], "T 0 0 0\n");
-    prints_for((40, 41), &[], "R 4 0\n");
+    prints_for((40, 41), &[], "R 4 0 0\n");
     prints_for((512, 1), &[], "T 0 0 0\n");
-    prints_for((1, 512), &[], "R 4 0\n");
+    prints_for((1, 512), &[], "R 4 0 0\n");
     prints_for((512, 80, 2), &[], "T 0 0 0\n");
-    prints_for((2, 80, 512), &[], "R 12 0\n");
-    prints_for((80, 512, 2), &[], "R 4 0\n");
+    prints_for((2, 80, 512), &[], "R 12 0 0\n");
+    prints_for((80, 512, 2), &[], "R 4 0 0\n");
 }
 
 #[test]
@@ -266,8 +272,8 @@ fn numbers_low_byte_first() {
         &[(256, 256, 256)],
         "F 1 256 256 1\nC 256 1 1 192100\nT 1 1 1\n",
     );
-    prints_for((1, 256), &[], "R 4 0\n");
-    prints_for((513, 1), &[], "R 3 0\n");
+    prints_for((1, 256), &[], "R 4 0 0\n");
+    prints_for((513, 1), &[], "R 3 0 0\n");
     prints_for(
         (258, 1),
         &[(16_909_060, 258, 258)],

@@ -5,16 +5,18 @@ use programs::{
     assert_same, random_line, run, run_without_input, sheet_of, text_of, Folder, Line, UNREAD_INPUT,
 };
 
-/// What is wrong, by refusal number, on a line.
-fn fault(number: &str, line: Line) -> &'static str {
-    match (number, line.grid_meant()) {
-        ("3", _) => "not 1 to 512 links",
-        ("12", _) => "a grid that is neither 1 nor 2",
-        ("4", 1) => "not 1 to 40 wavelengths",
-        ("4", 2) => "not 1 to 80 wavelengths",
-        ("5", _) => "circuit number 0",
-        ("6", _) => "an end that is not on the line",
-        ("7", _) => "a circuit number that stands twice",
+/// What is wrong, by number and end of a refusal, on a line.
+fn fault(number: &str, end: &str, line: Line) -> &'static str {
+    match (number, end, line.grid_meant()) {
+        ("3", "0", _) => "not 1 to 512 links",
+        ("12", "0", _) => "a grid that is neither 1 nor 2",
+        ("4", "0", 1) => "not 1 to 40 wavelengths",
+        ("4", "0", 2) => "not 1 to 80 wavelengths",
+        ("5", "0", _) => "circuit number 0",
+        ("6", "1", _) => "first link 0",
+        ("6", "2", _) => "first link past the last",
+        ("6", "3", _) => "last link past the line",
+        ("7", "0", _) => "a circuit number that stands twice",
         refused => panic!("{refused:?}"),
     }
 }
@@ -51,10 +53,13 @@ fn expected(text: &[u8], line: Line, circuits: &[Circuit]) -> String {
     let Some(refused) = sheet.strip_prefix("R ") else {
         return sheet;
     };
-    let (number, place) = refused.trim_end().split_once(' ').unwrap();
+    let fields: Vec<&str> = refused.trim_end().split(' ').collect();
+    let [number, place, end] = fields[..] else {
+        panic!("{sheet}");
+    };
     // The header is the line before the first circuit's, and its refusals have place 0.
     let at = lines_that_count(text)[place.parse::<usize>().unwrap()];
-    format!("{sheet}line {at}: {}\n", fault(number, line))
+    format!("{sheet}line {at}: {}\n", fault(number, end, line))
 }
 
 #[test]
@@ -96,28 +101,42 @@ fn refuses(text: &str, refusal: &str, line: usize, fault: &str) {
 fn each_refusal_and_its_line() {
     for n in ["0", "513", "65535"] {
         let text = format!("{n} 41\n# x\n\n0 0 0\n");
-        refuses(&text, "R 3 0", 1, "not 1 to 512 links");
+        refuses(&text, "R 3 0 0", 1, "not 1 to 512 links");
     }
     for grid in ["0", "3", "65535"] {
         let text = format!("5 81 {grid}\n# x\n0 0 0\n");
-        refuses(&text, "R 12 0", 1, "a grid that is neither 1 nor 2");
+        refuses(&text, "R 12 0 0", 1, "a grid that is neither 1 nor 2");
     }
     for header in ["512 0", "512 41", "512 65535", "5 41 1", "5 80 1"] {
         let text = format!("{header}\n\n# x\n0 0 0\n");
-        refuses(&text, "R 4 0", 1, "not 1 to 40 wavelengths");
+        refuses(&text, "R 4 0 0", 1, "not 1 to 40 wavelengths");
     }
     for header in ["512 0 2", "5 81 2", "5 65535 2"] {
         let text = format!("{header}\n\n# x\n0 0 0\n");
-        refuses(&text, "R 4 0", 1, "not 1 to 80 wavelengths");
+        refuses(&text, "R 4 0 0", 1, "not 1 to 80 wavelengths");
     }
     let text = "5 2\n# x\n10 0 9\n\n0 1 3\n10 1 1\n0 1 1";
-    refuses(text, "R 5 2", 5, "circuit number 0");
-    for ends in ["0 1", "0 0", "3 2", "5 6", "6 6", "1 65535"] {
-        let text = format!("5 2\n10 1 3\n# x\n20 2 5\n\n10 {ends}\n40 9 9\n");
-        refuses(&text, "R 6 3", 6, "an end that is not on the line");
-    }
+    refuses(text, "R 5 2 0", 5, "circuit number 0");
     let text = "5 2\r\n10 1 3\r\n\r\n20 1 3\r\n# 10 1 3\r\n10 1 3\r\n20 1 3\r\n";
-    refuses(text, "R 7 3", 6, "a circuit number that stands twice");
+    refuses(text, "R 7 3 0", 6, "a circuit number that stands twice");
+}
+
+#[test]
+fn each_wrong_end_and_its_line() {
+    for (refusal, fault, wrong) in [
+        ("R 6 3 1", "first link 0", ["0 1", "0 0", "0 9"]),
+        ("R 6 3 2", "first link past the last", ["3 2", "9 8", "1 0"]),
+        (
+            "R 6 3 3",
+            "last link past the line",
+            ["5 6", "6 6", "1 65535"],
+        ),
+    ] {
+        for ends in wrong {
+            let text = format!("5 2\n10 1 3\n# x\n20 2 5\n\n10 {ends}\n40 9 9\n50 0 1\n");
+            refuses(&text, refusal, 6, fault);
+        }
+    }
 }
 
 #[test]
@@ -125,13 +144,13 @@ fn n_w_and_grid_are_told_apart() {
     prints(b"5 80 2", "T 0 0 0\n");
     prints(
         b"2 5 80",
-        "R 12 0\nline 1: a grid that is neither 1 nor 2\n",
+        "R 12 0 0\nline 1: a grid that is neither 1 nor 2\n",
     );
     prints(b"41 40", "T 0 0 0\n");
-    prints(b"40 41", "R 4 0\nline 1: not 1 to 40 wavelengths\n");
+    prints(b"40 41", "R 4 0 0\nline 1: not 1 to 40 wavelengths\n");
     prints(
         b"2 5\n10 1 3\n",
-        "R 6 1\nline 2: an end that is not on the line\n",
+        "R 6 1 3\nline 2: last link past the line\n",
     );
 }
 

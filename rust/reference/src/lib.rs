@@ -16,7 +16,7 @@ pub use lit::lit;
 pub use paired::paired;
 pub use records::Circuit;
 #[doc(hidden)]
-pub use slips::{Slip, BASE_SLIPS, GRID_SLIPS, LIT_SLIPS};
+pub use slips::{Slip, BASE_SLIPS, END_SLIPS, GRID_SLIPS, LIT_SLIPS};
 
 use std::ops::RangeInclusive;
 
@@ -42,13 +42,15 @@ pub struct Counts {
     pub floor: usize,
 }
 
-/// The number of a refusal, and its place.
+/// The number of a refusal, its place and its end.
 #[derive(Clone, Copy, Debug, PartialEq, Eq)]
 pub struct Refused {
     /// Its number in the table.
     pub number: u32,
     /// The record, counted from 1, or 0.
     pub place: usize,
+    /// For refusal 6: 1, first link zero; 2, first past last; 3, last past the line. For others 0.
+    pub end: u32,
 }
 
 /// A fibre of a layer.

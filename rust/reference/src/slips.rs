@@ -41,6 +41,12 @@ pub enum Slip {
     FourBeforeTwelve,
     /// Both grids have the limit of grid 1.
     OneLimit,
+    /// Of a record's wrong ends, 3 is tested before 2.
+    ThreeBeforeTwo,
+    /// Each of the three ends is tested over the whole file before the next.
+    EndByEnd,
+    /// Refusal 5 has end 1.
+    EndForFive,
 }
 
 /// The mistakes with the base.
@@ -69,3 +75,6 @@ pub const LIT_SLIPS: [Slip; 8] = [
 
 /// The mistakes with R-5.
 pub const GRID_SLIPS: [Slip; 2] = [Slip::FourBeforeTwelve, Slip::OneLimit];
+
+/// The mistakes with R-6. The order 2, 1, 3 is none: a first link 0 is never past the last.
+pub const END_SLIPS: [Slip; 3] = [Slip::ThreeBeforeTwo, Slip::EndByEnd, Slip::EndForFive];

@@ -9,7 +9,11 @@ fn unless(holds: bool, number: u32) -> Result<(), Refused> {
     if holds {
         Ok(())
     } else {
-        Err(Refused { number, place: 0 })
+        Err(Refused {
+            number,
+            place: 0,
+            end: 0,
+        })
     }
 }
 
@@ -24,8 +28,38 @@ fn unless_bad(
         Some(at) => Err(Refused {
             number,
             place: at + 1,
+            end: 0,
         }),
     }
+}
+
+/// Test 5.
+fn accepted_numbers(circuits: &[Circuit], slip: Slip) -> Result<(), Refused> {
+    let end = u32::from(slip == Slip::EndForFive);
+    unless_bad(circuits, 5, |c| c.number == 0).map_err(|refused| Refused { end, ..refused })
+}
+
+/// Test 6, by R-6: the first record with any of the three faults, and that record's first fault.
+fn accepted_ends(n: usize, circuits: &[Circuit], slip: Slip) -> Result<(), Refused> {
+    let order = match slip {
+        Slip::ThreeBeforeTwo => [1, 3, 2],
+        _ => [1, 2, 3],
+    };
+    let wrong = |c: &Circuit, end: u32| match end {
+        1 => c.first == 0,
+        2 => c.first > c.last,
+        _ => c.last > n,
+    };
+    let mut faults = circuits.iter().zip(1..).flat_map(|(c, place)| {
+        let ends = order.into_iter().filter(move |&end| wrong(c, end));
+        ends.map(move |end| (place, end))
+    });
+    let first = match slip {
+        Slip::EndByEnd => faults.min_by_key(|&(place, end)| (end, place)),
+        _ => faults.next(),
+    };
+    let number = 6;
+    first.map_or(Ok(()), |(place, end)| Err(Refused { number, place, end }))
 }
 
 /// The tests of the line: 3, 12 and 4.
@@ -50,10 +84,8 @@ pub fn accepted(
     unless(file.len() / 8 <= 2048, 2)?;
     accepted_line(line, slip)?;
     let circuits: Vec<Circuit> = file.chunks(8).map(Circuit::read).collect();
-    unless_bad(&circuits, 5, |c| c.number == 0)?;
-    unless_bad(&circuits, 6, |c| {
-        c.first == 0 || c.first > c.last || c.last > line.n
-    })?;
+    accepted_numbers(&circuits, slip)?;
+    accepted_ends(line.n, &circuits, slip)?;
     let mut seen = HashSet::new();
     unless_bad(&circuits, 7, |c| !seen.insert(c.number))?;
     let each = if slip == Slip::RoomForPairs { 16 } else { 8 };

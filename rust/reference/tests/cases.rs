@@ -1,8 +1,9 @@
-//! The cases of 01 as R-1 answers them, a gap, many old pairs that become two fibres, the grids of R-5, and that mistakes
-//! show in them.
+//! The cases of 01 as R-1 answers them, a gap, many old pairs that become two fibres, the grids of R-5, the ends of R-6, and
+//! that mistakes show in them.
 use inputs::{encode, ladder, Circuit};
 use reference::{
-    frequency, needs, paired, plan_with, Counts, Line, Refused, Slip, GRID_SLIPS, LIT_SLIPS,
+    frequency, needs, paired, plan_with, Counts, Line, Refused, Slip, END_SLIPS, GRID_SLIPS,
+    LIT_SLIPS,
 };
 
 /// Fibre number and wavelength of a circuit.
@@ -274,6 +275,74 @@ fn each_mistake_with_r_5_shows_in_a_line() {
             .iter()
             .any(|&(line, number)| refused(slip, line) != number);
         assert!(shows, "{slip:?} shows in no line");
+    }
+}
+
+/// Circuits on 5 links, and number, place and end of their refusal, if any.
+type Ends = (&'static [Circuit], Option<(u32, usize, u32)>);
+
+const ENDS: [Ends; 17] = [
+    (&[(1, 1, 5), (2, 5, 5)], None),
+    (&[(1, 0, 1)], Some((6, 1, 1))),
+    (&[(1, 0, 0)], Some((6, 1, 1))),
+    (&[(1, 0, 9)], Some((6, 1, 1))),
+    (&[(1, 3, 2)], Some((6, 1, 2))),
+    (&[(1, 1, 0)], Some((6, 1, 2))),
+    (&[(1, 6, 5)], Some((6, 1, 2))),
+    (&[(1, 9, 8)], Some((6, 1, 2))),
+    (&[(1, 5, 6)], Some((6, 1, 3))),
+    (&[(1, 6, 6)], Some((6, 1, 3))),
+    (&[(1, 1, 1), (2, 5, 6), (3, 0, 1)], Some((6, 2, 3))),
+    (&[(1, 1, 1), (2, 5, 6), (3, 3, 2)], Some((6, 2, 3))),
+    (&[(1, 3, 2), (2, 0, 1), (3, 5, 6)], Some((6, 1, 2))),
+    (&[(0, 1, 1)], Some((5, 1, 0))),
+    (&[(1, 5, 6), (0, 0, 1)], Some((5, 2, 0))),
+    (&[(4, 1, 1), (4, 5, 6)], Some((6, 2, 3))),
+    (&[(4, 1, 1), (4, 1, 1)], Some((7, 2, 0))),
+];
+
+/// Number, place and end of the refusal of circuits on 5 links, if any.
+fn refused_ends(slip: Slip, circuits: &[Circuit]) -> Option<(u32, usize, u32)> {
+    let refused = written(slip, 5, 2, circuits).err();
+    refused.map(|refused| (refused.number, refused.place, refused.end))
+}
+
+#[test]
+fn each_wrong_end() {
+    for (circuits, refused) in ENDS {
+        assert_eq!(refused_ends(Slip::None, circuits), refused, "{circuits:?}");
+    }
+}
+
+#[test]
+fn each_mistake_with_r_6_shows_in_a_file() {
+    for slip in END_SLIPS {
+        let shows = |&(circuits, refused): &Ends| refused_ends(slip, circuits) != refused;
+        assert!(ENDS.iter().any(shows), "{slip:?} shows in no file");
+    }
+}
+
+#[test]
+fn other_refusals_have_no_end() {
+    let file = encode(&[(1, 1, 1)]);
+    let refused = |line, file: &[u8], [f, a, k]: [usize; 3]| {
+        let mut areas = [vec![0; f], vec![0; a], vec![0; k]];
+        let [f, a, k] = &mut areas;
+        let refused = plan_with(Slip::None, line, file, f, a, k).unwrap_err();
+        (refused.number, refused.place, refused.end)
+    };
+    let line = |n, w, grid| Line { n, w, grid };
+    for (number, line, file, lengths) in [
+        (1, line(1, 1, 1), &file[..7], [8; 3]),
+        (2, line(1, 1, 1), &file.repeat(2049), [8; 3]),
+        (3, line(0, 1, 1), &file, [8; 3]),
+        (12, line(1, 1, 3), &file, [8; 3]),
+        (4, line(1, 41, 1), &file, [8; 3]),
+        (8, line(1, 1, 1), &file, [7, 8, 8]),
+        (9, line(1, 1, 1), &file, [8, 7, 8]),
+        (10, line(1, 1, 1), &file, [8, 8, 7]),
+    ] {
+        assert_eq!(refused(line, file, lengths), (number, 0, 0));
     }
 }
 

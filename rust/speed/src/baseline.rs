@@ -1,8 +1,8 @@
 //! The planner as a Rust programmer would write it: the same tests, the same bytes, no proof.
 use std::collections::HashSet;
 
-/// Number and place of a refusal.
-pub type Refused = (u32, usize);
+/// Number, place and end of a refusal.
+pub type Refused = (u32, usize, u32);
 
 /// How many fibres, their total length, and the floor.
 pub type Counts = [usize; 3];
@@ -47,11 +47,11 @@ enum Colour {
 use Colour::{Blue, Open, Red, Taken};
 
 fn unless(holds: bool, number: u32) -> Result<(), Refused> {
-    holds.then_some(()).ok_or((number, 0))
+    holds.then_some(()).ok_or((number, 0, 0))
 }
 
 fn unless_at(found: Option<usize>, number: u32) -> Result<(), Refused> {
-    found.map_or(Ok(()), |at| Err((number, at + 1)))
+    found.map_or(Ok(()), |at| Err((number, at + 1, 0)))
 }
 
 fn read(place: usize, record: &[u8]) -> Circuit {
@@ -68,6 +68,27 @@ fn read(place: usize, record: &[u8]) -> Circuit {
 fn repeated(circuits: &[Circuit]) -> Option<usize> {
     let mut seen = HashSet::with_capacity(circuits.len());
     circuits.iter().position(|c| !seen.insert(c.number))
+}
+
+/// What is wrong with the ends of a circuit, or 0.
+fn wrong_end(n: usize, circuit: &Circuit) -> u32 {
+    let (first, last) = circuit.ends();
+    if first == 0 {
+        1
+    } else if last < first {
+        2
+    } else if n < last {
+        3
+    } else {
+        0
+    }
+}
+
+/// Test 6.
+fn accepted_ends(n: usize, circuits: &[Circuit]) -> Result<(), Refused> {
+    let wrong = |(j, c): (usize, &Circuit)| (6, j + 1, wrong_end(n, c));
+    let mut ends = circuits.iter().enumerate().map(wrong);
+    ends.find(|(.., end)| *end != 0).map_or(Ok(()), Err)
 }
 
 /// The circuits of a file that no test refuses; `lengths` are those of the lent areas.
@@ -88,8 +109,7 @@ fn accepted(
     let records = file.chunks_exact(8).enumerate();
     let circuits: Vec<Circuit> = records.map(|(j, record)| read(j, record)).collect();
     unless_at(circuits.iter().position(|c| c.number == 0), 5)?;
-    let bad_ends = |c: &Circuit| c.first == 0 || c.last < c.first || n < usize::from(c.last);
-    unless_at(circuits.iter().position(bad_ends), 6)?;
+    accepted_ends(n, &circuits)?;
     unless_at(repeated(&circuits), 7)?;
     unless(8 * m <= fibres, 8)?;
     unless(8 * m <= assignments, 9)?;

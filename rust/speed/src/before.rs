@@ -6,7 +6,7 @@ use std::path::{Path, PathBuf};
 use std::process::Command;
 use std::{env, fs, mem, process};
 
-/// What the function of an archive answers. The layout is that of `include/fibre_plan.h`.
+/// What the function of an archive answers. The archive before has no end.
 #[repr(C)]
 struct PlanAnswer {
     refusal: u32,
@@ -16,10 +16,11 @@ struct PlanAnswer {
     floor: usize,
 }
 
-/// The function of an archive. The archive before has no grid.
+/// The function of an archive.
 type Planner = unsafe extern "C" fn(
     links: usize,
     wavelengths: usize,
+    grid: usize,
     circuits: *const u8,
     circuits_len: usize,
     fibres: *mut u8,
@@ -78,7 +79,7 @@ impl Before {
     /// Plans the circuit records on lent areas.
     pub fn plan(
         &self,
-        [links, wavelengths]: [usize; 2],
+        [links, wavelengths, grid]: [usize; 3],
         circuits: &[u8],
         [fibres, assignments, work]: [&mut [u8]; 3],
     ) -> Answer {
@@ -88,6 +89,7 @@ impl Before {
             (self.0)(
                 links,
                 wavelengths,
+                grid,
                 circuits.as_ptr(),
                 circuits.len(),
                 fibres.as_mut_ptr(),
@@ -100,7 +102,7 @@ impl Before {
         };
         match answer.refusal {
             0 => Ok([answer.fibres, answer.total, answer.floor]),
-            number => Err((number, answer.place as usize)),
+            number => Err((number, answer.place as usize, 0)),
         }
     }
 }

@@ -5,7 +5,7 @@ use crate::clock;
 use inputs::{encode, Family, Numbers, Rng};
 use std::hint::black_box;
 
-/// The grid of every case: the archive before has no other.
+/// The grid of every case: it has all wavelengths that are tried, and a plan does not depend on it otherwise.
 const GRID: usize = 1;
 
 /// A file of circuits, and the line and the fibres that it is for.
@@ -96,8 +96,6 @@ struct Lent {
     areas: Areas,
     /// With an assignment list that is too short, so that a call ends after test 7.
     short: Areas,
-    /// With room for two fibres a circuit, as an archive without R-1 asks for.
-    wide: Areas,
 }
 
 impl Lent {
@@ -106,15 +104,13 @@ impl Lent {
         let mut spoilt = file.clone();
         let last_link = spoilt.len() - 2;
         spoilt[last_link..].fill(0);
-        let (mut short, mut wide) = (areas.clone(), areas.clone());
+        let mut short = areas.clone();
         short.assignments.pop();
-        wide.fibres.resize(2 * areas.fibres.len(), 0);
         Self {
             file,
             spoilt,
             areas,
             short,
-            wide,
         }
     }
 }
@@ -153,7 +149,7 @@ impl Case {
             work,
         )
         .map(|c| [c.fibres, c.total, c.floor])
-        .map_err(|r| (r.number(), r.place()))
+        .map_err(|r| (r.number(), r.place(), r.end()))
     }
 
     fn plain(&self, file: &[u8], to: &mut Areas) -> baseline::Answer {
@@ -176,7 +172,7 @@ impl Case {
     fn before(&self, planner: &Before, file: &[u8], to: &mut Areas) -> baseline::Answer {
         let areas = [&mut to.fibres, &mut to.assignments, &mut to.work];
         let areas = areas.map(Vec::as_mut_slice);
-        planner.plan([self.links, self.wavelengths], file, areas)
+        planner.plan([self.links, self.wavelengths, GRID], file, areas)
     }
 
     /// Both answer alike and leave the same bytes; each call that is measured ends where it should.
@@ -187,11 +183,12 @@ impl Case {
         assert_eq!(answer, self.plain(&lent.file, &mut two));
         assert!(one == two, "{:?}: the bytes differ", self.family);
         let after_six = self.ours(&lent.spoilt, &mut lent.areas);
-        assert_eq!(after_six, Err((6, self.circuits)));
-        assert_eq!(self.ours(&lent.file, &mut lent.short), Err((9, 0)));
-        assert_eq!(self.plain(&lent.file, &mut lent.short), Err((9, 0)));
+        assert_eq!(after_six, Err((6, self.circuits, 2)));
+        assert_eq!(after_six, self.plain(&lent.spoilt, &mut lent.areas));
+        assert_eq!(self.ours(&lent.file, &mut lent.short), Err((9, 0, 0)));
+        assert_eq!(self.plain(&lent.file, &mut lent.short), Err((9, 0, 0)));
         if let Some(planner) = before {
-            let answer = self.before(planner, &lent.file, &mut lent.wide);
+            let answer = self.before(planner, &lent.file, &mut lent.areas);
             assert!(answer.is_ok(), "the archive before refuses: {answer:?}");
         }
     }
@@ -203,7 +200,6 @@ impl Case {
             spoilt,
             areas,
             short,
-            wide,
         } = lent;
         let keep = |best: &mut f64, time: f64| *best = best.min(time);
         keep(&mut best.ours, timed(areas, |to| self.ours(file, to)));
@@ -213,7 +209,7 @@ impl Case {
         let plain_seven = timed(short, |to| self.plain(file, to));
         keep(&mut best.plain_seven, plain_seven);
         if let Some(planner) = before {
-            let time = timed(wide, |to| self.before(planner, file, to));
+            let time = timed(areas, |to| self.before(planner, file, to));
             keep(&mut best.before, time);
         }
     }

@@ -9,7 +9,7 @@ settle-requires : tie.Need-settle-requires
 settle-requires c κs = admitted _ _ _ _ _ (c .before .before .before .before .before .before .of-plan .ensures) (c .before .before .before .before .t2 .given .1)
 
 returns : tie.Need-returns
-returns c = refused _ _ _ _ _ _ (c .before .before .before .of-plan .ensures) (c .before .t .given .1)
+returns c = refused _ _ _ _ _ _ _ (c .before .before .before .of-plan .ensures) (c .before .t .given .1)
 
 returns-2 : tie.Need-returns-2
 returns-2 c = planned _ _ _ _ _ _ _ (c .before .before .before .before .before .before .before .before .before .before .before .before .before .of-plan .ensures) (c .before .before .before .before .before .before .before .before .before .before .before .t2 .given .1) (c .before .before .before .before .before .before .settle .ensures)

@@ -8,6 +8,7 @@ use borrow.Author.Needs.{needs}
 use borrow.Author.Tests.{eq-eqb, ne-eqb}
 use lib.Dec.{eqb}
 use Rattle.records.specs.Records.{numberIn}
+use Rattle.refusals.specs.Table.{noEnd}
 use Rattle.refusals.proofs.FirstLaws.{number-is, none-more, refused-at, checked-all}
 use Rattle.refusals.proofs.numbered.Statement.{statement}
 use Rattle.refusals.proofs.numbered.Tie as tie
@@ -31,7 +32,7 @@ returns c =
     let l = k .before .before .loop in
     let a = k .before .before .before .before .args in
     let e = number-is (a .circuits .now) (l .j) _ (k .circuit-at .ensures) in
-    refused-at (isZero (a .circuits .now)) 5 (a .m) (a .m) (l .j) (k .before .loop-test .taken) (eq-eqb _ 0 (sym e ∙ c .if1 .taken)) (l .inv .1)
+    refused-at (isZero (a .circuits .now)) 5 noEnd (a .m) (a .m) (l .j) (k .before .loop-test .taken) (eq-eqb _ 0 (sym e ∙ c .if1 .taken)) (l .inv .1)
 
 loop-again : tie.Need-loop-again Inv-loop μ-loop
 loop-again c =
@@ -45,7 +46,7 @@ returns-2 : tie.Need-returns-2 Inv-loop μ-loop
 returns-2 c =
     let l = c .before .loop in
     let a = c .before .before .before .args in
-    checked-all (isZero (a .circuits .now)) 5 (a .m) (a .m) (l .j) (c .loop-test .left) (l .inv .1)
+    checked-all (isZero (a .circuits .now)) 5 noEnd (a .m) (a .m) (l .j) (c .loop-test .left) (l .inv .1)
 
 pub numbered-spec : {M : Type 1} → statement M
 numbered-spec =

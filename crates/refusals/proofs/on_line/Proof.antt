@@ -1,13 +1,15 @@
 -- `on_line` meets its contract: no record before the one that is read has bad ends. Assumes nothing.
-use Prim.Native.Nat.{ℕ, _≤_, _<_, _-_}
-use mathlib.Core.Path.{_≡_, _∙_, ap, sym}
+use Prim.Native.Nat.{ℕ, _+_, _≤_, _<_, _-_}
+use mathlib.Core.Path.{_≡_, _∙_, ap}
 use mathlib.Core.Bool.{Bool, false}
 use mathlib.Core.List.{List}
 use native.Mathlib.Omega.{arith}
 use borrow.Author.Needs.{needs}
 use Rattle.records.specs.Records.{recordAt, circuitOf}
-use Rattle.refusals.specs.Table.{badEnds}
+use Rattle.refusals.specs.Table.{badEnds, wrongEnd}
+use Rattle.refusals.specs.declared.Verdict.the-variants.{Refused}
 use Rattle.refusals.proofs.FirstLaws.{none-more, refused-at, checked-all}
+use Rattle.refusals.proofs.EndLaws.{end-bad, end-good}
 use Rattle.refusals.proofs.on_line.Statement.{statement}
 use Rattle.refusals.proofs.on_line.Tie as tie
 
@@ -29,22 +31,25 @@ returns c =
     let k = c .before .before in
     let l = k .before .before .loop in
     let a = k .before .before .before .before .args in
-    let e = c .before .bad-ends .ensures ∙ ap (badEnds (a .n)) (k .circuit-at .ensures) in
-    refused-at (isBad (a .n) (a .circuits .now)) 6 (a .m) (a .m) (l .j) (k .before .loop-test .taken) (sym e ∙ c .if1 .taken) (l .inv .1)
+    let x = circuitOf (recordAt (a .circuits .now) (l .j)) in
+    let e : c .before .wrong-end .result ≡ wrongEnd (a .n) x = c .before .wrong-end .ensures ∙ ap (wrongEnd (a .n)) (k .circuit-at .ensures) in
+    let first = refused-at (isBad (a .n) (a .circuits .now)) 6 (λ i. wrongEnd (a .n) (circuitOf (recordAt (a .circuits .now) i))) (a .m) (a .m) (l .j) (k .before .loop-test .taken) (end-bad (a .n) x (omega (arith, c .if1 .taken))) (l .inv .1) in
+    ap (Refused 6 (l .j + 1)) e ∙ first
 
 loop-again : tie.Need-loop-again Inv-loop μ-loop
 loop-again c =
     let k = c .before .before in
     let l = k .before .before .loop in
     let a = k .before .before .before .before .args in
-    let e = c .before .bad-ends .ensures ∙ ap (badEnds (a .n)) (k .circuit-at .ensures) in
-    (search needs, none-more (isBad (a .n) (a .circuits .now)) (l .j) (l .inv .1) (sym e ∙ c .if1 .left))
+    let x = circuitOf (recordAt (a .circuits .now) (l .j)) in
+    let e : c .before .wrong-end .result ≡ wrongEnd (a .n) x = c .before .wrong-end .ensures ∙ ap (wrongEnd (a .n)) (k .circuit-at .ensures) in
+    (search needs, none-more (isBad (a .n) (a .circuits .now)) (l .j) (l .inv .1) (end-good (a .n) x (omega (arith, c .if1 .left))))
 
 returns-2 : tie.Need-returns-2 Inv-loop μ-loop
 returns-2 c =
     let l = c .before .loop in
     let a = c .before .before .before .args in
-    checked-all (isBad (a .n) (a .circuits .now)) 6 (a .m) (a .m) (l .j) (c .loop-test .left) (l .inv .1)
+    checked-all (isBad (a .n) (a .circuits .now)) 6 _ (a .m) (a .m) (l .j) (c .loop-test .left) (l .inv .1)
 
 pub on-line-spec : {M : Type 1} → statement M
 on-line-spec =

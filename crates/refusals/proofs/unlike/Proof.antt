@@ -15,7 +15,7 @@ use Rattle.basics.proofs.Bools.{by-eq, by-le}
 use Rattle.basics.proofs.LastLaws.{heads-turn, last-hit, last-le, last-miss, last-none, links-turn}
 use Rattle.basics.proofs.Searches.{any-hit, any-none}
 use Rattle.refusals.specs.declared.Verdict.the-variants.{Checked, Refused}
-use Rattle.refusals.specs.Table.{hasNumber, repeats, row7, tested}
+use Rattle.refusals.specs.Table.{hasNumber, noEnd, repeats, row7, tested}
 use Rattle.refusals.specs.inner.Remainders.{remainderOf}
 use Rattle.refusals.proofs.FirstLaws.{number-is, none-more, refused-at, checked-all}
 use Rattle.refusals.proofs.unlike.Statement.{statement}
@@ -170,7 +170,7 @@ pairs-again c =
 
 -- where the ways out of the loops meet: no record repeats and the place is 0, or the place is that of the first that does
 abbrev Out : List ℕ → ℕ → ℕ → Type 0
-Out s m place = ((place ≡ 0) × (Checked m ≡ tested (row7 s m) m)) ⊎ ((0 < place) × (place ≤ m) × (Refused 7 place ≡ tested (row7 s m) m))
+Out s m place = ((place ≡ 0) × (Checked m ≡ tested (row7 s m) m)) ⊎ ((0 < place) × (place ≤ m) × (Refused 7 place 0 ≡ tested (row7 s m) m))
 
 -- record j is the first to repeat one before it, record i
 found : (s : List ℕ) (m j i place : ℕ) → j < m → ((d : ℕ) → d < j → repeats s d ≡ false) → i < j → numberIn s i ≡ numberIn s j
@@ -178,7 +178,7 @@ found : (s : List ℕ) (m j i place : ℕ) → j < m → ((d : ℕ) → d < j �
 unfolding repeats
 found s m j i place h before l e p =
     let hit : repeats s j ≡ true = any-hit (hasNumber s (numberIn s j)) j i l (eq-eqb _ _ e) in
-    inr (omega arith, omega arith, ap (Refused 7) p ∙ refused-at (repeats s) 7 m m j h hit before)
+    inr (omega arith, omega arith, ap (λ (x : ℕ). Refused 7 x 0) p ∙ refused-at (repeats s) 7 noEnd m m j h hit before)
 
 -- and one of the two it is
 out : (c : tie.Left-pairs Inv-loop μ-loop Inv-pairs μ-pairs)
@@ -188,7 +188,7 @@ out c =
     let a = c .before .before .before .args in
     let s = a .circuits .now in
     ⊎-elim
-    (λ w. inl (w .1 ∙ o .inv .1, checked-all (repeats s) 7 (a .m) (a .m) (o .j) (w .0 .left) (o .inv .2)))
+    (λ w. inl (w .1 ∙ o .inv .1, checked-all (repeats s) 7 noEnd (a .m) (a .m) (o .j) (w .0 .left) (o .inv .2)))
     (λ w.
     let x = number-is s (o .j) _ (w .1 .ensures) in
     let y = number-is s (w .4 .z - 1) _ (w .6 .ensures) in

@@ -14,8 +14,8 @@ pub struct Input {
     pub lengths: [usize; 3],
 }
 
-/// The three numbers of a plan, or number and place of a refusal.
-pub type Answer = Result<[usize; 3], (u32, usize)>;
+/// The three numbers of a plan, or number, place and end of a refusal.
+pub type Answer = Result<[usize; 3], (u32, usize, u32)>;
 
 /// What a call answered and what it left in the areas, guards included.
 #[derive(Debug, PartialEq, Eq)]
@@ -80,7 +80,7 @@ impl Input {
         self.seen(|file, [f, a, k]| {
             fibre_plan::plan_bytes(n, w, grid, file, f, a, k)
                 .map(|c| [c.fibres, c.total, c.floor])
-                .map_err(|r| (r.number(), r.place()))
+                .map_err(|r| (r.number(), r.place(), r.end()))
         })
     }
 
@@ -89,7 +89,7 @@ impl Input {
         self.seen(|file, [f, a, k]| {
             reference::plan_with(slip, self.line, file, f, a, k)
                 .map(|c| [c.fibres, c.total, c.floor])
-                .map_err(|r| (r.number, r.place))
+                .map_err(|r| (r.number, r.place, r.end))
         })
     }
 }

@@ -114,12 +114,17 @@ fn spoil_record(input: &mut Input, rng: &mut Rng) {
     let other = 8 * rng.within(0, many - 1);
     let links = input.line.n;
     let file = &mut input.circuits;
-    match rng.within(0, 5) {
+    match rng.within(0, 6) {
         0 => file[at..at + 4].fill(0),
         1 => set_half(file, at + 4, 0),
         2 => set_half(file, at + 4, links.saturating_add(1)),
         3 => set_half(file, at + 6, links.saturating_add(1)),
         4 => file.copy_within(other..other + 4, at),
+        5 => {
+            // The first link is past the last, and the last past the line.
+            set_half(file, at + 4, links.saturating_add(2));
+            set_half(file, at + 6, links.saturating_add(1));
+        }
         _ => file[at + rng.within(0, 7)] ^= 1 << rng.within(0, 7),
     }
 }

@@ -5,7 +5,7 @@ mod draws;
 use areas::{Answer, Input, Seen};
 use draws::{accepted, damaged, full_size, rng_of, Size, LARGE, MIDDLE, SMALL};
 use inputs::{encode, ladder, Numbers, Rng};
-use reference::{Slip, BASE_SLIPS, GRID_SLIPS, LIT_SLIPS};
+use reference::{Slip, BASE_SLIPS, END_SLIPS, GRID_SLIPS, LIT_SLIPS};
 use std::sync::atomic::{AtomicUsize, Ordering};
 use std::thread;
 
@@ -118,19 +118,42 @@ fn a_plan_does_not_depend_on_the_grid() {
 
 #[test]
 fn damaged_inputs_meet_every_refusal() {
-    let met = [const { AtomicUsize::new(0) }; 13];
+    let met = [const { [const { AtomicUsize::new(0) }; 4] }; 13];
     spread(100_000, |i| {
         let answer = same(&damaged(&mut rng_of(5, i)));
-        let number = answer.map_or_else(|(number, _)| number as usize, |_| 0);
-        met[number].fetch_add(1, Ordering::Relaxed);
+        let (number, _, end) = answer.err().unwrap_or((0, 0, 0));
+        met[number as usize][end as usize].fetch_add(1, Ordering::Relaxed);
     });
-    for (number, times) in met.iter().enumerate() {
-        let times = times.load(Ordering::Relaxed);
-        // Only the program gives 11.
-        assert!(
-            times >= 100 || number == 11,
-            "refusal {number} was met only {times} times"
-        );
+    for (number, ends) in met.iter().enumerate() {
+        for (end, times) in ends.iter().enumerate() {
+            let times = times.load(Ordering::Relaxed);
+            // Only the program gives 11; only 6 has an end.
+            let given = number != 11 && (number == 6) == (end != 0);
+            assert!(
+                if given { times >= 100 } else { times == 0 },
+                "refusal {number} with end {end} was met {times} times"
+            );
+        }
+    }
+}
+
+#[test]
+fn the_first_record_with_a_wrong_end_and_its_first_fault() {
+    // Ends on 5 links, and what is wrong with them.
+    let ends = [(1, 5, 0), (0, 9, 1), (0, 0, 1), (9, 8, 2), (5, 6, 3)];
+    for one in ends {
+        for two in ends {
+            let list = [(7, one.0, one.1), (8, two.0, two.1)];
+            let refused = [one, two]
+                .into_iter()
+                .zip(1..)
+                .find(|((.., end), _)| *end > 0);
+            let answer = same(&Input::new([5, 2, 1], encode(&list)));
+            assert_eq!(
+                answer.err(),
+                refused.map(|((.., end), place)| (6, place, end))
+            );
+        }
     }
 }
 
@@ -140,7 +163,7 @@ fn repeats_far_apart() {
         for distance in [1, 2, 31, 32, 33, 64, 1000, 2047] {
             for at in [distance, 2047] {
                 let answer = same(&draws::repeated(numbers, at, distance));
-                assert_eq!(answer, Err((7, at + 1)));
+                assert_eq!(answer, Err((7, at + 1, 0)));
             }
         }
     }
@@ -215,4 +238,5 @@ fn each_slip_is_noticed() {
     noticed(&BASE_SLIPS, |rng| accepted(SMALL, rng));
     noticed(&LIT_SLIPS, |rng| accepted(SMALL, rng));
     noticed(&GRID_SLIPS, damaged);
+    noticed(&END_SLIPS, damaged);
 }

@@ -61,23 +61,31 @@ fn grid_2() {
 fn a_refused_folder() {
     let house = House::new();
     house.0.put_folder("empty");
-    printed(house.run(&["empty"]), "R 11 0\n", 1);
+    printed(house.run(&["empty"]), "R 11 0 0\n", 1);
     house.listing("bad");
     for (line, refusal) in [
-        (&[5, 0, 41, 0][..], "R 4 0\n"),
-        (&[5, 0, 81, 0, 2, 0], "R 4 0\n"),
-        (&[5, 0, 2, 0, 3, 0], "R 12 0\n"),
-        (&[5, 0, 2, 0, 2], "R 11 0\n"),
+        (&[5, 0, 41, 0][..], "R 4 0 0\n"),
+        (&[5, 0, 81, 0, 2, 0], "R 4 0 0\n"),
+        (&[5, 0, 2, 0, 3, 0], "R 12 0 0\n"),
+        (&[5, 0, 2, 0, 2], "R 11 0 0\n"),
     ] {
         house.0.put("bad/line.rec", line);
         printed(house.run(&["bad"]), refusal, 1);
     }
+    house.0.put("bad/line.rec", &[4, 0, 2, 0]);
+    printed(house.run(&["bad"]), "R 6 2 3\n", 1);
 }
 
 #[test]
 fn a_refused_text() {
     let house = House::new();
-    for (text, refusal) in [("5 41\n", "R 4 0\n"), ("5 2 3\n", "R 12 0\n")] {
+    for (text, refusal) in [
+        ("5 41\n", "R 4 0 0\n"),
+        ("5 2 3\n", "R 12 0 0\n"),
+        ("5 2\n10 0 3\n", "R 6 1 1\n"),
+        ("5 2\n10 3 1\n", "R 6 1 2\n"),
+        ("5 2\n10 3 6\n", "R 6 1 3\n"),
+    ] {
         house.0.put("text", text.as_bytes());
         let ran = house.run(&["text"]);
         assert!(ran.out.starts_with(refusal), "{ran:?}");
@@ -269,7 +277,7 @@ fn a_sheet_that_is_not_whole() {
         "F 1 1 1 1\\nC 7 1 1 192100\\n",
         "F 1 1",
         "R 1",
-        "R 11 0",
+        "R 11 0 0",
     ] {
         house.script("target/bin/sheet", &format!("printf '{text}'"));
         told(house.run(&["records"]), "not whole", 3);
@@ -289,8 +297,8 @@ fn a_text_whose_answer_is_not_whole() {
         "",
         "T 0 0 0",
         "F 1 1 1 1\\n",
-        "R 5 1\\n",
-        "R 5 1\\nline 2: circ",
+        "R 5 1 0\\n",
+        "R 5 1 0\\nline 2: circ",
         "line 2",
     ] {
         house.script("target/bin/typed", &format!("printf '{text}'"));
@@ -427,5 +435,5 @@ fn what_may_not_be_read_is_told() {
     house.0.allow("records/circuits.rec", 0);
     let mut command = house.plan();
     as_nobody(&mut command);
-    printed(run_command(command.arg("records"), b""), "R 11 0\n", 1);
+    printed(run_command(command.arg("records"), b""), "R 11 0 0\n", 1);
 }

@@ -17,7 +17,7 @@ write-refusal-words-requires c κs = omega (arith, c .before .before .before .wr
 
 add-result : tie.Need-add-result
 add-result c =
-    omega (arith, c .before .before .before .before .before .before .write-line-number .ensures .0, line-room (c .before .before .before .before .before .before .before .before .line-of-record .result), c .before .before .write-refusal-words .ensures .0, words-room (c .before .before .before .before .before .before .before .before .before .before .before .before .before .before .args .line .grid) (c .before .before .before .before .before .before .before .before .before .before .v .given .0 .0))
+    omega (arith, c .before .before .before .before .before .before .write-line-number .ensures .0, line-room (c .before .before .before .before .before .before .before .before .line-of-record .result), c .before .before .write-refusal-words .ensures .0, words-room (c .before .before .before .before .before .before .before .before .before .before .before .before .before .before .args .line .grid) (c .before .before .before .before .before .before .before .before .before .before .v .given .0 .0) (c .before .before .before .before .before .before .before .before .before .before .v .given .0 .1 .1 .0))
 
 returns : tie.Need-returns
 returns c = no-more _ (c .before .before .before .before .args .line) _ _ _ (c .enum-told .given .1)
@@ -25,7 +25,7 @@ returns c = no-more _ (c .before .before .before .before .args .line) _ _ _ (c .
 returns-2 : tie.Need-returns-2
 returns-2 c =
     let told = c .before .before .before .before .before .before .before .before .before .before .v .given in
-    after-line (c .before .before .before .before .before .before .before .before .before .before .before .before .before .before .args .text .now) (c .before .before .before .before .before .before .before .before .before .before .before .before .before .before .args .line) _ (told .0 .0) (told .0 .1 .0) _ _ _ _ _ _ (told .1) (c .before .before .before .before .before .before .before .before .line-of-record .ensures) (c .before .before .before .before .before .before .write-line-number .ensures) (c .before .before .write-refusal-words .ensures)
+    after-line (c .before .before .before .before .before .before .before .before .before .before .before .before .before .before .args .text .now) (c .before .before .before .before .before .before .before .before .before .before .before .before .before .before .args .line) _ (told .0 .0) (told .0 .1 .0) (told .0 .1 .1 .0) _ _ _ _ _ _ (told .1) (c .before .before .before .before .before .before .before .before .line-of-record .ensures) (c .before .before .before .before .before .before .write-line-number .ensures) (c .before .before .write-refusal-words .ensures)
 
 pub write-explained-spec : {M : Type 1} → statement M
 write-explained-spec =

@@ -34,12 +34,12 @@ returns-3 c =
 returns-4 : tie.Need-returns-4
 unfolding refusalWords words codes
 returns-4 c =
-    let if1 = c .before .before .before .before .before .before .before .before .if1 in
-    let if2 = c .before .before .before .before .before .before .before .if2 in
-    let if3 = c .before .before .before .before .before .before .if3 in
-    let if4 = c .before .before .before .before .before .if4 in
-    let write-words3 = c .before .before .write-words3 in
-    rw (ne-eqb _ _ (if1 .left), ne-eqb _ _ (if2 .left), ne-eqb _ _ (if3 .left), eq-eqb _ _ (if4 .taken)) (write-words3 .ensures)
+    let if1 = c .before .before .before .before .before .before .before .if1 in
+    let if2 = c .before .before .before .before .before .before .if2 in
+    let if3 = c .before .before .before .before .before .if3 in
+    let if4 = c .before .before .before .before .if4 in
+    let write-end-words = c .before .before .write-end-words in
+    rw (ne-eqb _ _ (if1 .left), ne-eqb _ _ (if2 .left), ne-eqb _ _ (if3 .left), eq-eqb _ _ (if4 .taken)) (write-end-words .ensures)
 
 returns-5 : tie.Need-returns-5
 unfolding refusalWords words codes
@@ -49,8 +49,8 @@ returns-5 c =
     let if3 = c .before .before .before .before .before .before .before .if3 in
     let if4 = c .before .before .before .before .before .before .if4 in
     let if5 = c .before .before .before .before .before .if5 in
-    let write-words4 = c .before .before .write-words4 in
-    rw (ne-eqb _ _ (if1 .left), ne-eqb _ _ (if2 .left), ne-eqb _ _ (if3 .left), ne-eqb _ _ (if4 .left), eq-eqb _ _ (if5 .taken)) (write-words4 .ensures)
+    let write-words3 = c .before .before .write-words3 in
+    rw (ne-eqb _ _ (if1 .left), ne-eqb _ _ (if2 .left), ne-eqb _ _ (if3 .left), ne-eqb _ _ (if4 .left), eq-eqb _ _ (if5 .taken)) (write-words3 .ensures)
 
 returns-6 : tie.Need-returns-6
 unfolding refusalWords words codes
@@ -61,8 +61,8 @@ returns-6 c =
     let if4 = c .before .before .before .before .before .before .before .if4 in
     let if5 = c .before .before .before .before .before .before .if5 in
     let if6 = c .before .before .before .before .before .if6 in
-    let write-words5 = c .before .before .write-words5 in
-    rw (ne-eqb _ _ (if1 .left), ne-eqb _ _ (if2 .left), ne-eqb _ _ (if3 .left), ne-eqb _ _ (if4 .left), ne-eqb _ _ (if5 .left), eq-eqb _ _ (if6 .taken)) (write-words5 .ensures)
+    let write-words4 = c .before .before .write-words4 in
+    rw (ne-eqb _ _ (if1 .left), ne-eqb _ _ (if2 .left), ne-eqb _ _ (if3 .left), ne-eqb _ _ (if4 .left), ne-eqb _ _ (if5 .left), eq-eqb _ _ (if6 .taken)) (write-words4 .ensures)
 
 returns-7 : tie.Need-returns-7
 unfolding refusalWords words codes
@@ -73,8 +73,8 @@ returns-7 c =
     let if4 = c .before .before .before .before .before .before .before .if4 in
     let if5 = c .before .before .before .before .before .before .if5 in
     let if6 = c .before .before .before .before .before .if6 in
-    let write-words6 = c .before .before .write-words6 in
-    rw (ne-eqb _ _ (if1 .left), ne-eqb _ _ (if2 .left), ne-eqb _ _ (if3 .left), ne-eqb _ _ (if4 .left), ne-eqb _ _ (if5 .left), ne-eqb _ _ (if6 .left)) (write-words6 .ensures)
+    let write-words5 = c .before .before .write-words5 in
+    rw (ne-eqb _ _ (if1 .left), ne-eqb _ _ (if2 .left), ne-eqb _ _ (if3 .left), ne-eqb _ _ (if4 .left), ne-eqb _ _ (if5 .left), ne-eqb _ _ (if6 .left)) (write-words5 .ensures)
 
 pub write-refusal-words-spec : {M : Type 1} → statement M
 write-refusal-words-spec =
@@ -94,7 +94,6 @@ write-refusal-words-spec =
     (λ c κs. search needs)
     (λ c. search needs)
     returns-3
-    (λ c. search needs)
     (λ c κs. search needs)
     (λ c. search needs)
     returns-4
