@@ -1,8 +1,8 @@
-/* A fibre planner that is proved: every circuit of a line gets a fibre and a wavelength.
+/* A fibre planner that is proved: every circuit of a line gets a fibre and a wavelength. And a check of any plan, whoever made it.
  *
  * Build the archive with `rt staticlib exports`, and link target/staticlib/libexports.a (x86-64 Linux).
- * The function keeps nothing between calls, allocates nothing and uses less than 48 KB of stack; several threads may call it at
- * the same time, each with areas of its own.
+ * The functions keep nothing between calls and allocate nothing; fibre_plan uses less than 48 KB of stack, fibre_check less than
+ * 64 KB. Several threads may call them at the same time, each with areas of its own to be written.
  *
  * All records have 8 bytes; all numbers are unsigned and stand low byte first.
  *
@@ -28,6 +28,7 @@ extern "C" {
 /* The largest values that are accepted. */
 #define FIBRE_PLAN_MAX_LINKS 512
 #define FIBRE_PLAN_MAX_CIRCUITS 2048
+#define FIBRE_PLAN_MAX_FIBRES 4096 /* of a plan that is checked */
 
 /* The grids, and the most wavelengths of each. */
 #define FIBRE_PLAN_GRID_100_GHZ 1
@@ -97,6 +98,74 @@ fibre_plan_answer fibre_plan(size_t links, size_t wavelengths, size_t grid,
                              uint8_t *fibres, size_t fibres_len,
                              uint8_t *assignments, size_t assignments_len,
                              uint8_t *work, size_t work_len);
+
+/* The rules of a valid plan, by how they are broken. */
+#define FIBRE_PLAN_RULE_FIBRE_NUMBER 1
+#define FIBRE_PLAN_RULE_FIBRE_SPAN 2
+#define FIBRE_PLAN_RULE_ASSIGNMENT_COUNT 3
+#define FIBRE_PLAN_RULE_CIRCUIT_NUMBER 4
+#define FIBRE_PLAN_RULE_NO_SUCH_FIBRE 5
+#define FIBRE_PLAN_RULE_NOT_SPANNED 6
+#define FIBRE_PLAN_RULE_WAVELENGTH 7
+#define FIBRE_PLAN_RULE_CLASH 8
+
+/* What fibre_check answers. Yes: refusal and rule are 0, and there are a length and a floor. No: the rule is not 0. Refused: the
+ * refusal is not 0. What is not named for an answer is 0.
+ *
+ * Of the rules, the first that is broken is given: fibres come first, the first faulty one and its lowest rule; then rule 3; then
+ * assignments, the first faulty one and its lowest rule. Places are counted from 1.
+ *
+ *   rule  broken when                                                                   place
+ *     1   a fibre's number is not its place in the list                                 that fibre
+ *     2   its first link is 0, or past its last, or its last past links                 that fibre
+ *     3   there are not as many assignments as circuits                                 0
+ *     4   an assignment does not have the number of the circuit at its place            that assignment
+ *     5   there is no fibre of the number that it has                                   that assignment
+ *     6   its fibre does not span the circuit                                           that assignment
+ *     7   its wavelength is not 1 to wavelengths                                        that assignment
+ *     8   an earlier one has its fibre and wavelength, and their circuits share a link  that assignment, the later one
+ *
+ * The refusals come before all rules. The tests run in this order, each over the whole input; the first that applies is given,
+ * and none otherwise. Places are circuit records but for refusal 16; the end is as in fibre_plan_answer.
+ *
+ *   refusal  given when                                                   place                   end
+ *      0     checked                                                      see the rules           0
+ *      1     the circuit bytes are not a multiple of 8                    0                       0
+ *      2     there are more than 2,048 circuits                           0                       0
+ *      3     links is not 1 to 512                                        0                       0
+ *     12     grid is neither 1 nor 2                                      0                       0
+ *      4     wavelengths is not 1 to 40 (grid 1) or 1 to 80 (grid 2)      0                       0
+ *      5     a circuit number is 0                                        the first such record   0
+ *      6     a first link is 0, or past the last, or the last past links  the first such record   1, 2 or 3
+ *      7     a circuit number stands twice                                the first that repeats  0
+ *     16     fibres is not a multiple of 8 bytes, or over 4,096 records   1                       0
+ *     16     assignments is not a multiple of 8 bytes, or over 2,048      2                       0
+ */
+typedef struct fibre_check_answer {
+    uint32_t refusal; /* 0: checked */
+    uint32_t place;
+    uint32_t end;     /* 0, but for refusal 6 */
+    uint32_t rule;    /* 0: none is broken, or refused */
+    size_t length;    /* the sum over the fibres of the links that they span */
+    size_t floor;     /* a length that no valid plan can be shorter than */
+} fibre_check_answer;
+
+/* Checks a plan of the circuits of a line, whoever made it: yes exactly if it breaks no rule. Every plan that fibre_plan
+ * writes gets a yes, with its total and its floor.
+ *
+ *   links, wavelengths   of the line, and of each fibre; any value is taken
+ *   grid                 FIBRE_PLAN_GRID_100_GHZ or FIBRE_PLAN_GRID_50_GHZ; any value is taken
+ *   circuits             circuits_len bytes of circuit records, in any order
+ *   fibres               fibres_len bytes of fibre records, for a plan of fibre_plan 8 bytes for each of its fibres; their
+ *                        layers do not matter
+ *   assignments          assignments_len bytes of assignment records, in the order of the circuits
+ *
+ * All three are only read. The caller sees to it that each pointer is to so many bytes (and is not NULL, not even where the
+ * length is 0), and that nobody writes to them during the call; they may overlap. */
+fibre_check_answer fibre_check(size_t links, size_t wavelengths, size_t grid,
+                               const uint8_t *circuits, size_t circuits_len,
+                               const uint8_t *fibres, size_t fibres_len,
+                               const uint8_t *assignments, size_t assignments_len);
 
 #ifdef __cplusplus
 }

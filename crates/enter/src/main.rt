@@ -8,7 +8,7 @@ ghost use lib.ListN.{length};
 
 // Writes both files, and prints what is said of the text.
 fn keep(line: &[u8], circuits: &[u8], message: &[u8]) {
-    let pair = files::pair::replace_pair(line, circuits);
+    let pair = files::pair::replace_records(line, circuits);
     match pair {
         Replacement::Done => files::write_output(message),
         Replacement::NotWritten => files::write_output(

@@ -1,4 +1,6 @@
-// The planner for callers in C and Rust: the answer's enum as a plain struct of numbers.
+// The planner and the check for callers in C and Rust: the answer's enum as a plain struct of numbers.
+pub mod check;
+
 use planner::Answer;
 use records::Line;
 ghost use mathlib.Core.Path.{_≡_};

@@ -1,14 +1,15 @@
-// Two files that belong together, replaced by one writer so that the folder at no moment holds one of the old pair beside one of the new.
+// Two files that belong together, replaced by one writer so that the folder at no moment holds one of the old pair beside one of the new. The last of the two is the
+// one without which the pair is refused: it is moved away before the first is replaced, and comes back last.
 use crate::Moved;
 
-// What became of the pair: it is new, or it is as it was since the drafts could not be written, or a file could not take its name, and then there may be no line.rec.
+// What became of the pair: it is new, or it is as it was since the drafts could not be written, or a file could not take its name, and then the last may be missing.
 pub enum Replacement {
     Done,
     NotWritten,
     NotNamed,
 }
 
-// Whether a line.rec was moved away, or there was none, or it cannot be moved.
+// Whether an old last file was moved away, or there was none, or it cannot be moved.
 enum Away {
     Moved,
     Missing,
@@ -35,17 +36,17 @@ fn write_draft(name: &[u8], bytes: &[u8]) -> bool {
 }
 
 // Writes both drafts.
-fn write_drafts(line: &[u8], circuits: &[u8]) -> bool {
-    if !write_draft(b"circuits.rec.new", circuits) {
+fn write_drafts(first_new: &[u8], first_bytes: &[u8], last_new: &[u8], last_bytes: &[u8]) -> bool {
+    if !write_draft(first_new, first_bytes) {
         return false;
     }
-    write_draft(b"line.rec.new", line)
+    write_draft(last_new, last_bytes)
 }
 
-// Moves the old line away, if there is one. What stands under the other name goes first: were it the same file, a move would do nothing.
-fn line_away() -> Away {
-    os::unlink(b"line.rec.old");
-    if 0 <= os::rename(b"line.rec", b"line.rec.old") {
+// Moves the old last file away, if there is one. What stands under the other name goes first: were it the same file, a move would do nothing.
+fn last_away(last: &[u8], last_old: &[u8]) -> Away {
+    os::unlink(last_old);
+    if 0 <= os::rename(last, last_old) {
         return Away::Moved;
     }
     if os::errno() == libc::ENOENT {
@@ -64,55 +65,104 @@ fn names_to_disk() {
     libc::close(fd);
 }
 
-// The new circuits take their name. If they cannot, the old line comes back if it was moved away.
-fn new_circuits(away: Away) -> bool {
-    if 0 <= os::rename(b"circuits.rec.new", b"circuits.rec") {
+// The new first file takes its name. If it cannot, the old last file comes back if it was moved away.
+fn new_first(moved: bool, first: &[u8], first_new: &[u8], last: &[u8], last_old: &[u8]) -> bool {
+    if 0 <= os::rename(first_new, first) {
         return true;
     }
-    match away {
-        Away::Moved => os::rename(b"line.rec.old", b"line.rec"),
-        Away::Missing => 0,
-        Away::Stuck => 0,
+    if moved {
+        os::rename(last_old, last);
     }
-    ;
     false
 }
 
-// The new circuits, and then the new line, take their names; in between there is no line.rec.
-fn take_names() -> bool {
-    let away = line_away();
-    match away {
-        Away::Stuck => return false,
-        Away::Moved => names_to_disk(),
-        Away::Missing => names_to_disk(),
-    }
-    if !new_circuits(away) {
+// With no last file, and the old one moved away or not: the new first file, and then the new last one, take their names.
+fn name_both(
+    moved: bool,
+    first: &[u8],
+    first_new: &[u8],
+    last: &[u8],
+    last_new: &[u8],
+    last_old: &[u8],
+) -> bool {
+    names_to_disk();
+    if !new_first(moved, first, first_new, last, last_old) {
         return false;
     }
     names_to_disk();
-    if os::rename(b"line.rec.new", b"line.rec") < 0 {
+    if os::rename(last_new, last) < 0 {
         return false;
     }
     names_to_disk();
-    os::unlink(b"line.rec.old");
+    os::unlink(last_old);
     true
 }
 
-// Removes both drafts.
-fn no_drafts() {
-    os::unlink(b"line.rec.new");
-    os::unlink(b"circuits.rec.new");
+// The new files take their names; in between there is no last file.
+fn take_names(
+    first: &[u8],
+    first_new: &[u8],
+    last: &[u8],
+    last_new: &[u8],
+    last_old: &[u8],
+) -> bool {
+    let away = last_away(last, last_old);
+    match away {
+        Away::Moved => name_both(true, first, first_new, last, last_new, last_old),
+        Away::Missing => name_both(false, first, first_new, last, last_new, last_old),
+        Away::Stuck => false,
+    }
 }
 
-// Replaces line.rec and circuits.rec by files of these bytes. At every moment there is the old pair, or the new pair, or no line.rec.
-pub fn replace_pair(line: &[u8], circuits: &[u8]) -> Replacement {
-    if !write_drafts(line, circuits) {
-        no_drafts();
+// Removes both drafts.
+fn no_drafts(first_new: &[u8], last_new: &[u8]) {
+    os::unlink(last_new);
+    os::unlink(first_new);
+}
+
+// Replaces both files by files of these bytes, each under its name; the drafts and the old last file stand under names of their own meanwhile.
+fn replace(
+    first: &[u8],
+    first_new: &[u8],
+    first_bytes: &[u8],
+    last: &[u8],
+    last_new: &[u8],
+    last_old: &[u8],
+    last_bytes: &[u8],
+) -> Replacement {
+    if !write_drafts(first_new, first_bytes, last_new, last_bytes) {
+        no_drafts(first_new, last_new);
         return Replacement::NotWritten;
     }
-    if !take_names() {
-        no_drafts();
+    if !take_names(first, first_new, last, last_new, last_old) {
+        no_drafts(first_new, last_new);
         return Replacement::NotNamed;
     }
     Replacement::Done
+}
+
+// Replaces line.rec and circuits.rec by files of these bytes. At every moment there is the old pair, or the new pair, or no line.rec.
+pub fn replace_records(line: &[u8], circuits: &[u8]) -> Replacement {
+    replace(
+        b"circuits.rec",
+        b"circuits.rec.new",
+        circuits,
+        b"line.rec",
+        b"line.rec.new",
+        b"line.rec.old",
+        line,
+    )
+}
+
+// Replaces fibres.rec and assign.rec by files of these bytes. At every moment there is the old pair, or the new pair, or no assign.rec.
+pub fn replace_lists(fibres: &[u8], assigns: &[u8]) -> Replacement {
+    replace(
+        b"fibres.rec",
+        b"fibres.rec.new",
+        fibres,
+        b"assign.rec",
+        b"assign.rec.new",
+        b"assign.rec.old",
+        assigns,
+    )
 }

@@ -21,7 +21,7 @@ use Rattle.refusals.proofs.Passed.{passes-room}
 use Rattle.refusals.proofs.Pieces.{none-both, none-end, none-more}
 use Rattle.register.specs.Areas.{Areas}
 use Rattle.register.specs.Lists.{countsOf, fibreList, fibreRecords, assignmentList, assignmentRecords}
-use Rattle.register.proofs.Reading.{assignment-record, fibre-record}
+use Rattle.register.proofs.Reading.{assignment-record, fibre-record, length-assignmentRecords, length-fibreRecords}
 use Rattle.rows.specs.Accepted.{Accepted}
 use Rattle.planner.specs.declared.Answer.{Answer}
 use Rattle.planner.specs.declared.Answer.the-variants.{Planned, Refused}
@@ -80,7 +80,7 @@ module _ (line : Line) (s : List ℕ) (before : Areas) (ample : Ample (before .f
         (none-more _ _ (passes-room 10 (4 * line .links + 4 * m) (length (before .work)) (omega arith)) none-end))
 
     -- all tests pass
-    all-pass : judged line s before ≡ Checked (length s / 8)
+    pub all-pass : judged line s before ≡ Checked (length s / 8)
     unfolding judged planTable
     all-pass = verdict-passes (tableFor line s before) (length s / 8) (none-both (circuitRows line s) _ passed (none-both _ _ areas-pass none-end))
 
@@ -99,27 +99,63 @@ module _ (line : Line) (s : List ℕ) (before : Areas) (ample : Ample (before .f
       Held answer (length s / 8) fibres assigns
       × (answerText (line .grid) answer (length s / 8) fibres assigns ≡ textBy t (planText (line .grid) (circuitsOf s) (planOf line s) (floor (line .links) (line .wavelengths) (circuitsOf s))))
 
+  module _ (after : Areas) (answer : Answer) (o : Outcome line s before after answer) where
+    -- where tests 1 to 7 and 12 pass, all do, and the answer has the plan's numbers
+    pub is-planned : NoneApplies (circuitRows line s) → answer ≡ Planned (numbersOf line s)
+    is-planned passed = o .answered ∙ ap (λ (t : Verdict). answerBy t (numbersOf line s)) (all-pass passed)
+
+    -- the fibre list then starts with the plan's records
+    pub fibres-written : NoneApplies (circuitRows line s) → Wrote (fibreRecords 0 ((planOf line s) .fibres)) (8 * length ((planOf line s) .fibres)) (before .fibres) (after .fibres)
+    unfolding fibreList
+    fibres-written passed =
+        let p = planOf line s in
+        (sym (length-fibreRecords 0 (p .fibres)), o .listed ∙ ap (λ (t : Verdict). ifAccepted t (fibreList 0 (p .fibres) (before .fibres)) (before .fibres)) (all-pass passed))
+
+    -- and so does the assignment list
+    pub assigns-written : NoneApplies (circuitRows line s) → Wrote (assignmentRecords 0 (circuitsOf s) ((planOf line s) .assignments)) (8 * (length s / 8)) (before .assigns) (after .assigns)
+    unfolding assignmentList
+    assigns-written passed =
+        let p = planOf line s in
+        let cs = circuitsOf s in
+        let given = due passed .rules .valid .all-assigned in (
+          omega (arith, many, length-assignmentRecords 0 cs (p .assignments) given),
+          o .assigned ∙ ap (λ (t : Verdict). ifAccepted t (assignmentList 0 cs (p .assignments) (before .assigns)) (before .assigns)) (all-pass passed)
+              ∙ ap (λ (k : ℕ). assignmentRecords 0 cs (p .assignments) ++ drop (8 * k) (before .assigns)) many,
+        )
+
+    module _ (number place end : ℕ) (q : verdict (circuitRows line s) (length s / 8) ≡ Failed number place end) where
+      -- where one of them applies, it is the first of all
+      first-of-all : Failed number place end ≡ judged line s before
+      unfolding judged planTable
+      first-of-all = piece-gives (circuitRows line s) _ (length s / 8) (length s / 8) number place end (Failed number place end) (sym q) refl
+
+      -- the answer then refuses so
+      pub is-refused : answer ≡ Refused number place end
+      is-refused = o .answered ∙ sym (ap (λ (t : Verdict). answerBy t (numbersOf line s)) first-of-all)
+
+      -- and both lists are as they were
+      pub lists-left : (after .fibres ≡ before .fibres) × (after .assigns ≡ before .assigns)
+      lists-left = (
+        o .listed ∙ sym (ap (λ (t : Verdict). ifAccepted t (fibreList 0 ((planOf line s) .fibres) (before .fibres)) (before .fibres)) first-of-all),
+        o .assigned ∙ sym (ap (λ (t : Verdict). ifAccepted t (assignmentList 0 (circuitsOf s) ((planOf line s) .assignments) (before .assigns)) (before .assigns)) first-of-all),
+      )
+
   module _ (after : Areas) (answer : Answer) (long-fibres : length (after .fibres) ≡ length (before .fibres)) (long-assigns : length (after .assigns) ≡ length (before .assigns))
       (o : Outcome line s before after answer) where
-    -- where the tests pass, the lists start with the records of the plan
+    -- where the tests pass, the lists hold the plan
     planned : (m : ℕ) → verdict (circuitRows line s) (length s / 8) ≡ Checked m → Said (Checked m) (Planned (numbersOf line s)) (after .fibres) (after .assigns)
-    unfolding countsOf planText sheetText fibreList assignmentList
+    unfolding countsOf planText sheetText
     planned m q =
         let passed = verdict-passed (circuitRows line s) (length s / 8) m q .1 in
-        let j = all-pass passed in
         let p = planOf line s in
         let given = due passed .rules .valid .all-assigned in
         let few = took passed .file .few in
         let one = few-fibres passed in
         let a = ample .fibres-ample in
         let b = ample .assigns-ample in
-        let listed : after .fibres ≡ fibreRecords 0 (p .fibres) ++ drop (8 * length (p .fibres)) (before .fibres) =
-        o .listed ∙ ap (λ (t : Verdict). ifAccepted t (fibreList 0 (p .fibres) (before .fibres)) (before .fibres)) j in
-        let assigned : after .assigns ≡ assignmentRecords 0 (circuitsOf s) (p .assignments) ++ drop (8 * length (circuitsOf s)) (before .assigns) =
-        o .assigned ∙ ap (λ (t : Verdict). ifAccepted t (assignmentList 0 (circuitsOf s) (p .assignments) (before .assigns)) (before .assigns)) j in
-        let fibre-part = ap (fibreLines (length (p .fibres))) listed ∙ fibre-lines (length (p .fibres)) (p .fibres) _ (omega arith) in
+        let fibre-part = ap (fibreLines (length (p .fibres))) (fibres-written after answer o passed .1) ∙ fibre-lines (length (p .fibres)) (p .fibres) _ (omega arith) in
         let circuit-part : circuitLines (line .grid) (length s / 8) (after .assigns) ≡ circuitLines (line .grid) (length (circuitsOf s)) (assignmentRecords 0 (circuitsOf s) (p .assignments)) =
-        ap (circuitLines (line .grid) (length s / 8)) assigned ∙ circuit-lines (line .grid) (length s / 8) (circuitsOf s) (p .assignments) _ given (omega (arith, many))
+        ap (circuitLines (line .grid) (length s / 8)) (assigns-written after answer o passed .1) ∙ circuit-lines (line .grid) (length s / 8) (circuitsOf s) (p .assignments) _ given (omega (arith, many))
         ∙ ap (λ (k : ℕ). circuitLines (line .grid) k (assignmentRecords 0 (circuitsOf s) (p .assignments))) (sym many) in (
           (omega arith, few, omega arith, omega arith),
           λ i. fibre-part i ++ circuit-part i ++ totalLine (length (p .fibres)) (total (p .fibres)) (floor (line .links) (line .wavelengths) (circuitsOf s)),
@@ -127,15 +163,10 @@ module _ (line : Line) (s : List ℕ) (before : Areas) (ample : Ample (before .f
 
     -- by the verdict of tests 1 to 7 and 12
     said : (t : Verdict) → verdict (circuitRows line s) (length s / 8) ≡ t → Said t answer (after .fibres) (after .assigns)
-    unfolding judged planTable
     said (Checked m) q =
-        let j = all-pass (verdict-passed (circuitRows line s) (length s / 8) m q .1) in
-        let is : answer ≡ Planned (numbersOf line s) = o .answered ∙ ap (λ (t : Verdict). answerBy t (numbersOf line s)) j in
-        subst (λ (a : Answer). Said (Checked m) a (after .fibres) (after .assigns)) (sym is) (planned m q)
+        subst (λ (a : Answer). Said (Checked m) a (after .fibres) (after .assigns)) (sym (is-planned after answer o (verdict-passed (circuitRows line s) (length s / 8) m q .1))) (planned m q)
     said (Failed number place end) q =
-        let j : Failed number place end ≡ judged line s before = piece-gives (circuitRows line s) _ (length s / 8) (length s / 8) number place end (Failed number place end) (sym q) refl in
-        let is : answer ≡ Refused number place end = o .answered ∙ sym (ap (λ (t : Verdict). answerBy t (numbersOf line s)) j) in
-        subst (λ (a : Answer). Said (Failed number place end) a (after .fibres) (after .assigns)) (sym is) (tt, refl)
+        subst (λ (a : Answer). Said (Failed number place end) a (after .fibres) (after .assigns)) (sym (is-refused after answer o number place end q)) (tt, refl)
 
     -- the lists hold what the answer counts
     pub held : Held answer (length s / 8) (after .fibres) (after .assigns)

@@ -2,3 +2,5 @@ pub mod Holding
 pub mod Printing
 pub mod TypedLaws
 pub mod ReadLaws
+pub mod KeepingLaws
+pub mod CheckLaws

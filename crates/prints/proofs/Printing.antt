@@ -53,7 +53,7 @@ module _ (a b : Moved) (line circuits : List ℕ) where
       ∙ ap (sheetOf l) (take-all 16392 (take j circuits) (omega (arith, length-take-le j circuits h)) ∙ sym (lent j circuits)))
 
 -- a seventh byte tells all that the length of `line.rec` can
-line-cut : (l : List ℕ) → lineIn (take 7 l) ≡ lineIn l
+pub line-cut : (l : List ℕ) → lineIn (take 7 l) ≡ lineIn l
 unfolding lineIn
 line-cut l =
     by-le (length l) 7

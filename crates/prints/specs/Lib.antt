@@ -2,4 +2,6 @@ pub mod Sheets
 pub mod Reads
 pub mod Typed
 pub mod Entering
+pub mod Keeping
+pub mod Checks
 pub mod inner

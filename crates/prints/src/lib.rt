@@ -10,7 +10,9 @@ ghost use Rattle.prints.specs.Reads.{fileRead, SheetRead};
 ghost use Rattle.prints.specs.Sheets.{sheetOf, unread, printed};
 ghost use Rattle.prints.specs.inner.Lent.{answerText, Held, Ample};
 
+pub mod checks;
 pub mod entering;
+pub mod keeping;
 pub mod typed;
 
 // The text of an answer on a grid, with m circuits and the two lists as the planner left them, at the start of a buffer. What is told: its length.
@@ -74,7 +76,7 @@ pub fn write_sheet(line: Line, circuits: &[u8], out: &mut [u8]) -> usize
 
 // The refusal of a file that cannot be read, at the start of a buffer. What is told: its length.
 fn write_unread(out: &mut [u8]) -> usize
-    requires { ⌜ 147536 ≤ length (now out) ⌝ }
+    requires { ⌜ 80 ≤ length (now out) ⌝ }
     ensures { λ r. ⌜ Wrote unread r (now (out .entry)) (now (out .exit)) ⌝ }
 {
     sheet_text::write_refusal(11, 0, 0, out)

@@ -2,7 +2,7 @@
 // The work area, seen as 2-byte cells: n needs c(i), n last rows of links, m rows of circuits (0 while a circuit waits), m spare.
 mod choice;
 mod colours;
-mod loads;
+pub mod loads;
 mod sheet;
 
 use crate::sheet::Size;

@@ -1,8 +1,8 @@
--- R-1's listing, line by line, and the refusal that only the program gives. Assumes nothing.
+-- R-1's listing, line by line, the refusal that only the program gives, and what a check says of the listing. Assumes nothing.
 use mathlib.Core.Path.{_≡_, refl}
 use mathlib.Core.List.{_++_}
 use Rattle.grid.specs.Frequencies.{anchorOf, spacingOf, channelOf, frequencyOf}
-use Rattle.sheet_text.specs.Text.{fields, line, fibreLine, circuitLine, totalLine, refusalLine}
+use Rattle.sheet_text.specs.Text.{fields, line, fibreLine, circuitLine, totalLine, refusalLine, yesLine, noLine}
 use Rattle.text.specs.Decimals.{decimalIn, decimal}
 use Rattle.text.specs.Words.{words, codes}
 
@@ -33,3 +33,13 @@ totals-listed = refl
 pub no-files : refusalLine (record { number = 11; place = 0; end = 0 }) ≡ words "R 11 0 0\n"
 unfolding refusalLine line fields decimal decimalIn words codes
 no-files = refl
+
+-- the listing's plan is sound
+pub yes-listed : yesLine 9 6 ≡ words "Y 9 6\n"
+unfolding yesLine line fields decimal decimalIn words codes
+yes-listed = refl
+
+-- with its last assignment put on the fibre and wavelength of circuit 20 it clashes
+pub no-listed : noLine 8 4 ≡ words "N 8 4\n"
+unfolding noLine line fields decimal decimalIn words codes
+no-listed = refl

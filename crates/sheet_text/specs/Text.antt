@@ -1,4 +1,4 @@
--- The lines of the sheet, byte for byte. What a reader must believe.
+-- The lines of the sheet and of a check, byte for byte. What a reader must believe.
 -- Assumes nothing.
 use Prim.Native.Nat.{ℕ, zero, suc}
 use mathlib.Core.List.{List, [], _∷_, _++_}
@@ -34,6 +34,14 @@ totalLine fibres total floor = line 84 (fibres ∷ total ∷ floor ∷ [])
 -- R: number, place, which end is wrong
 unfoldable pub refusalLine : Refusal → List ℕ
 refusalLine r = line 82 (r .number ∷ r .place ∷ r .end ∷ [])
+
+-- Y: total length, floor
+unfoldable pub yesLine : ℕ → ℕ → List ℕ
+yesLine total floor = line 89 (total ∷ floor ∷ [])
+
+-- N: the first broken rule, its place
+unfoldable pub noLine : ℕ → ℕ → List ℕ
+noLine rule place = line 78 (rule ∷ place ∷ [])
 
 -- the lines of the first k fibre records
 unfoldable pub fibreLines : ℕ → List ℕ → List ℕ

@@ -1,7 +1,7 @@
-// The text of the sheet in a lent buffer.
+// The text of the sheet, and the line of a check, in a lent buffer.
 ghost use Prim.Native.Nat.{_+_, _*_, _≤_};
 ghost use lib.ListN.{length};
-ghost use Rattle.sheet_text.specs.Text.{refusalLine, sheetText};
+ghost use Rattle.sheet_text.specs.Text.{noLine, refusalLine, sheetText, yesLine};
 ghost use Rattle.text.specs.Wrote.{Wrote};
 
 mod fields;
@@ -14,6 +14,22 @@ pub fn write_refusal(number: u32, place: u32, end: u32, out: &mut [u8]) -> usize
     ensures { λ r. ⌜ Wrote (refusalLine (record { number = number; place = place; end = end })) r (now (out .entry)) (now (out .exit)) ⌝ }
 {
     lines::write_three(82, number as usize, place as usize, end as usize, out)
+}
+
+// The one line of a plan that breaks no rule: its total length and the floor. What is told: how many bytes.
+pub fn write_yes(total: usize, floor: usize, out: &mut [u8]) -> usize
+    requires { ⌜ 80 ≤ length (now out) ⌝ }
+    ensures { λ r. ⌜ Wrote (yesLine total floor) r (now (out .entry)) (now (out .exit)) ⌝ }
+{
+    lines::write_two(89, total, floor, out)
+}
+
+// The one line of a plan that breaks a rule: the first broken, and its place. What is told: how many bytes.
+pub fn write_no(rule: u32, place: u32, out: &mut [u8]) -> usize
+    requires { ⌜ 80 ≤ length (now out) ⌝ }
+    ensures { λ r. ⌜ Wrote (noLine rule place) r (now (out .entry)) (now (out .exit)) ⌝ }
+{
+    lines::write_two(78, rule as usize, place as usize, out)
 }
 
 // The sheet of k fibre records and m assignment records on a grid, at the start of the buffer. What is told: its length.

@@ -1,4 +1,4 @@
-// Lines of the sheet, at the start of a lent buffer.
+// Lines, at the start of a lent buffer.
 ghost use mathlib.Core.Path.{_≡_};
 ghost use mathlib.Core.List.{[], _∷_, _++_};
 ghost use Prim.Native.Nat.{_+_, _≤_};
@@ -8,6 +8,18 @@ ghost use Rattle.text.specs.Decimals.{decimal};
 use crate::fields;
 use records::AssignmentRecord;
 use records::FibreRecord;
+
+// A line of two fields. What is told: its length.
+pub fn write_two(letter: u8, x: usize, y: usize, out: &mut [u8]) -> usize
+    requires { ⌜ 4 + length (decimal x) + length (decimal y) ≤ length (now out) ⌝ }
+    ensures { λ r. ⌜ (r ≡ length (line letter (x ∷ y ∷ []))) × (now (out .exit) ≡ line letter (x ∷ y ∷ []) ++ drop r (now (out .entry)))
+        × (r ≡ 4 + length (decimal x) + length (decimal y)) ⌝ }
+{
+    text::write_byte(letter, out);
+    let n = 1 + fields::write_pair(x, y, &mut out[1..]);
+    out[n] = 10;
+    n + 1
+}
 
 // A line of three fields. What is told: its length.
 pub fn write_three(letter: u8, x: usize, y: usize, z: usize, out: &mut [u8]) -> usize

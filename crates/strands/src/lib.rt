@@ -1,6 +1,6 @@
 // Phase two: from rows to fibres, and no dark ones.
 mod assigns;
-mod needs;
+pub mod needs;
 mod pairs;
 
 use register::Counts;

@@ -1,6 +1,6 @@
-//! The exported function of the archive.
+//! The exported functions of the archive.
 
-/// The answer as the archive returns it. The layout is that of `include/fibre_plan.h`.
+/// What `fibre_plan` answers, as the archive returns it. The layout is that of `include/fibre_plan.h`.
 #[repr(C)]
 pub struct PlanAnswer {
     pub refusal: u32,
@@ -8,6 +8,17 @@ pub struct PlanAnswer {
     pub end: u32,
     pub fibres: usize,
     pub total: usize,
+    pub floor: usize,
+}
+
+/// What `fibre_check` answers, as the archive returns it. The layout is that of `include/fibre_plan.h`.
+#[repr(C)]
+pub struct CheckAnswer {
+    pub refusal: u32,
+    pub place: u32,
+    pub end: u32,
+    pub rule: u32,
+    pub length: usize,
     pub floor: usize,
 }
 
@@ -25,10 +36,22 @@ extern "C" {
         work: *mut u8,
         work_len: usize,
     ) -> PlanAnswer;
+
+    fn fibre_check(
+        links: usize,
+        wavelengths: usize,
+        grid: usize,
+        circuits: *const u8,
+        circuits_len: usize,
+        fibres: *const u8,
+        fibres_len: usize,
+        assignments: *const u8,
+        assignments_len: usize,
+    ) -> CheckAnswer;
 }
 
-/// Calls the archive on lent areas.
-pub fn call(
+/// Calls `fibre_plan` on lent areas.
+pub fn plan(
     links: usize,
     wavelengths: usize,
     grid: usize,
@@ -56,15 +79,41 @@ pub fn call(
     }
 }
 
+/// Calls `fibre_check`.
+pub fn check(
+    links: usize,
+    wavelengths: usize,
+    grid: usize,
+    circuits: &[u8],
+    fibres: &[u8],
+    assignments: &[u8],
+) -> CheckAnswer {
+    // SAFETY: the function takes every input, writes to none, and each pointer and length are those of a slice that is
+    // borrowed for the call.
+    unsafe {
+        fibre_check(
+            links,
+            wavelengths,
+            grid,
+            circuits.as_ptr(),
+            circuits.len(),
+            fibres.as_ptr(),
+            fibres.len(),
+            assignments.as_ptr(),
+            assignments.len(),
+        )
+    }
+}
+
 #[cfg(test)]
 mod tests {
-    use super::call;
+    use super::{check, plan, CheckAnswer};
 
     const CIRCUIT: [u8; 8] = [7, 0, 0, 0, 1, 0, 1, 0];
 
     #[test]
     fn a_plan_has_no_refusal_no_place_and_no_end() {
-        let answer = call(1, 1, 1, &CIRCUIT, &mut [1; 8], &mut [1; 8], &mut [1; 8]);
+        let answer = plan(1, 1, 1, &CIRCUIT, &mut [1; 8], &mut [1; 8], &mut [1; 8]);
         assert_eq!((answer.refusal, answer.place, answer.end), (0, 0, 0));
         assert_eq!((answer.fibres, answer.total, answer.floor), (1, 1, 1));
     }
@@ -72,7 +121,7 @@ mod tests {
     #[test]
     fn a_refusal_has_three_zeros() {
         let file = [CIRCUIT, CIRCUIT].concat();
-        let answer = call(1, 1, 1, &file, &mut [1; 16], &mut [1; 16], &mut [1; 12]);
+        let answer = plan(1, 1, 1, &file, &mut [1; 16], &mut [1; 16], &mut [1; 12]);
         assert_eq!((answer.refusal, answer.place, answer.end), (7, 2, 0));
         assert_eq!((answer.fibres, answer.total, answer.floor), (0, 0, 0));
     }
@@ -81,9 +130,42 @@ mod tests {
     fn refusal_6_has_an_end_and_three_zeros() {
         for (first, last, end) in [(0, 9, 1), (9, 8, 2), (5, 6, 3)] {
             let file = [CIRCUIT, [8, 0, 0, 0, first, 0, last, 0]].concat();
-            let answer = call(5, 1, 1, &file, &mut [1; 16], &mut [1; 16], &mut [1; 28]);
+            let answer = plan(5, 1, 1, &file, &mut [1; 16], &mut [1; 16], &mut [1; 28]);
             assert_eq!((answer.refusal, answer.place, answer.end), (6, 2, end));
             assert_eq!((answer.fibres, answer.total, answer.floor), (0, 0, 0));
         }
+    }
+
+    /// The six numbers of an answer.
+    fn numbers(answer: CheckAnswer) -> ([u32; 4], [usize; 2]) {
+        (
+            [answer.refusal, answer.place, answer.end, answer.rule],
+            [answer.length, answer.floor],
+        )
+    }
+
+    const FIBRE: [u8; 8] = [1, 0, 1, 0, 2, 0, 1, 0];
+    const ASSIGNMENT: [u8; 8] = [7, 0, 0, 0, 1, 0, 1, 0];
+
+    #[test]
+    fn a_yes_has_a_length_and_a_floor() {
+        let answer = check(2, 1, 1, &CIRCUIT, &FIBRE, &ASSIGNMENT);
+        assert_eq!(numbers(answer), ([0; 4], [2, 1]));
+    }
+
+    #[test]
+    fn a_no_has_a_rule_and_a_place() {
+        let answer = check(1, 1, 1, &CIRCUIT, &FIBRE, &ASSIGNMENT);
+        assert_eq!(numbers(answer), ([0, 1, 0, 2], [0; 2]));
+        let answer = check(2, 1, 1, &CIRCUIT, &FIBRE, &[]);
+        assert_eq!(numbers(answer), ([0, 0, 0, 3], [0; 2]));
+    }
+
+    #[test]
+    fn a_check_that_is_refused_has_no_rule() {
+        let answer = check(2, 1, 1, &[7, 0, 0, 0, 2, 0, 1, 0], &FIBRE, &ASSIGNMENT);
+        assert_eq!(numbers(answer), ([6, 1, 2, 0], [0; 2]));
+        let answer = check(2, 1, 1, &CIRCUIT, &FIBRE, &ASSIGNMENT[1..]);
+        assert_eq!(numbers(answer), ([16, 2, 0, 0], [0; 2]));
     }
 }

@@ -27,14 +27,18 @@
 //! assert_eq!((plan.total, plan.floor), (5, 5));
 //! # Ok::<(), Refusal>(())
 //! ```
+//!
+//! [`check`] says of a plan that anybody made whether it is valid, and if not, which rule it breaks first, and where.
 #![deny(missing_docs)]
 #![deny(unsafe_op_in_unsafe_fn)]
 
 mod abi;
+mod check;
 mod grid;
 mod records;
 mod refusal;
 
+pub use check::{check, check_bytes, Finding, Rule};
 pub use grid::Grid;
 pub use records::{Assignment, Circuit, Fibre, RECORD_BYTES};
 pub use refusal::{End, Refusal};
@@ -42,8 +46,11 @@ pub use refusal::{End, Refusal};
 /// The most links that a line may have.
 pub const MAX_LINKS: usize = 512;
 
-/// The most circuits that are planned at once.
+/// The most circuits that are planned or checked at once.
 pub const MAX_CIRCUITS: usize = 2048;
+
+/// The most fibres of a plan that is checked.
+pub const MAX_FIBRES: usize = 4096;
 
 /// A line, and what its fibres carry.
 #[derive(Clone, Copy, Debug, PartialEq, Eq, Hash)]
@@ -115,8 +122,8 @@ pub const fn work_bytes(links: usize, circuits: usize) -> usize {
 /// The first [`Refusal`] of the table that applies: one of 2 to 7, since the records are whole, the
 /// grid is one of the two, and the areas are large enough.
 pub fn plan(line: Line, circuits: &[Circuit]) -> Result<Plan, Refusal> {
-    // Past the limits the answer is a refusal, which needs neither the other circuits nor room.
-    let bytes = records::encode(&circuits[..circuits.len().min(MAX_CIRCUITS + 1)]);
+    // Past the limits the answer is a refusal, which needs no room.
+    let bytes = records::encode(circuits, MAX_CIRCUITS, Circuit::to_bytes);
     let many = circuits.len().min(MAX_CIRCUITS);
     let mut fibres = vec![0; fibre_bytes(many)];
     let mut assignments = vec![0; assignment_bytes(many)];
@@ -175,7 +182,7 @@ pub fn plan_bytes(
     assignments: &mut [u8],
     work: &mut [u8],
 ) -> Result<Counts, Refusal> {
-    let answer = abi::call(
+    let answer = abi::plan(
         links,
         wavelengths,
         grid,

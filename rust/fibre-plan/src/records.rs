@@ -74,6 +74,16 @@ impl Circuit {
 }
 
 impl Fibre {
+    /// The fibre record.
+    pub fn to_bytes(self) -> [u8; RECORD_BYTES] {
+        let mut bytes = [0; RECORD_BYTES];
+        let fields = [self.number, self.first, self.last, self.layer];
+        for (at, field) in bytes.chunks_exact_mut(2).zip(fields) {
+            at.copy_from_slice(&field.to_le_bytes());
+        }
+        bytes
+    }
+
     /// Reads a fibre record.
     pub fn from_bytes(bytes: &[u8; RECORD_BYTES]) -> Self {
         Self {
@@ -86,6 +96,11 @@ impl Fibre {
 }
 
 impl Assignment {
+    /// The assignment record.
+    pub fn to_bytes(self) -> [u8; RECORD_BYTES] {
+        join(self.circuit, self.fibre, self.wavelength)
+    }
+
     /// Reads an assignment record.
     pub fn from_bytes(bytes: &[u8; RECORD_BYTES]) -> Self {
         Self {
@@ -96,9 +111,15 @@ impl Assignment {
     }
 }
 
-/// The circuit file of a list of circuits.
-pub fn encode(circuits: &[Circuit]) -> Vec<u8> {
-    circuits.iter().flat_map(|c| c.to_bytes()).collect()
+/// The bytes of a list of records, but of no more than one past so many: what is past the limits is refused, and the others
+/// do not matter for that.
+pub fn encode<T: Copy>(
+    list: &[T],
+    most: usize,
+    write: impl Fn(T) -> [u8; RECORD_BYTES],
+) -> Vec<u8> {
+    let records = list.iter().take(most + 1);
+    records.flat_map(|&record| write(record)).collect()
 }
 
 /// The first `many` records of a list.

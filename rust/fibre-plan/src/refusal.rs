@@ -39,7 +39,7 @@ impl fmt::Display for End {
     }
 }
 
-/// Why an input was refused. A place is that of a circuit, counted from 1.
+/// Why an input was refused. A place is that of a circuit, counted from 1, but for 16.
 #[derive(Clone, Copy, Debug, PartialEq, Eq, Hash)]
 #[non_exhaustive]
 pub enum Refusal {
@@ -76,6 +76,10 @@ pub enum Refusal {
     AssignmentRoom,
     /// 10: the work area has fewer than 4 bytes a link and 4 bytes a circuit.
     WorkRoom,
+    /// 16, place 1: the fibre list to be checked is not whole records, or more than 4,096.
+    FibreList,
+    /// 16, place 2: the assignment list to be checked is not whole records, or more than 2,048.
+    AssignmentList,
     /// What this crate's table does not have: the archive is newer.
     Other {
         /// Its number.
@@ -105,6 +109,8 @@ impl Refusal {
             (9, 0, 0) => Self::AssignmentRoom,
             (10, 0, 0) => Self::WorkRoom,
             (12, 0, 0) => Self::Grid,
+            (16, 1, 0) => Self::FibreList,
+            (16, 2, 0) => Self::AssignmentList,
             _ => Self::Other { number, place, end },
         }
     }
@@ -123,17 +129,21 @@ impl Refusal {
             Self::AssignmentRoom => 9,
             Self::WorkRoom => 10,
             Self::Grid => 12,
+            Self::FibreList | Self::AssignmentList => 16,
             Self::Other { number, .. } => number,
         }
     }
 
-    /// The circuit that it is about, counted from 1, or 0 where it is about none.
+    /// The circuit that it is about, counted from 1, or for 16 the list: 1 the fibres, 2 the assignments; 0 where it is about
+    /// none.
     pub fn place(self) -> usize {
         match self {
             Self::Zero { place }
             | Self::Ends { place, .. }
             | Self::Repeated { place }
             | Self::Other { place, .. } => place,
+            Self::FibreList => 1,
+            Self::AssignmentList => 2,
             _ => 0,
         }
     }
@@ -163,6 +173,8 @@ impl Refusal {
             Self::FibreRoom => "the fibre list is too short",
             Self::AssignmentRoom => "the assignment list is too short",
             Self::WorkRoom => "the work area is too short",
+            Self::FibreList => "the fibre list is not whole records, or more than 4,096",
+            Self::AssignmentList => "the assignment list is not whole records, or more than 2,048",
             Self::Other { .. } => "this crate has no words for it",
         }
     }
@@ -170,15 +182,13 @@ impl Refusal {
 
 impl fmt::Display for Refusal {
     fn fmt(&self, f: &mut fmt::Formatter<'_>) -> fmt::Result {
-        match self.place() {
-            0 => write!(f, "refusal {}: {}", self.number(), self.text()),
-            place => write!(
-                f,
-                "refusal {}, record {place}: {}",
-                self.number(),
-                self.text()
-            ),
+        write!(f, "refusal {}", self.number())?;
+        match (self, self.place()) {
+            (_, 0) => (),
+            (Self::FibreList | Self::AssignmentList, place) => write!(f, ", list {place}")?,
+            (_, place) => write!(f, ", record {place}")?,
         }
+        write!(f, ": {}", self.text())
     }
 }
 
@@ -190,8 +200,8 @@ mod tests {
 
     #[test]
     fn each_number_is_handed_on() {
-        for number in 1..=13 {
-            for place in [0, 1, 2048] {
+        for number in 1..=17 {
+            for place in [0, 1, 2, 3, 2048] {
                 for end in 0..=4 {
                     let refusal = Refusal::from_table(number, place, end);
                     let numbers = (refusal.number(), refusal.place(), refusal.end());

@@ -1,15 +1,20 @@
-//! How much stack one call of `fibre_plan` uses: less than 48 KB, as the header says.
+//! How much stack one call uses, as the header says: of `fibre_plan` less than 48 KB, of `fibre_check` less than 64 KB.
 #![cfg(target_arch = "x86_64")]
-use fibre_plan::{assignment_bytes, fibre_bytes, plan_bytes, work_bytes};
+use fibre_plan::{
+    assignment_bytes, check_bytes, fibre_bytes, plan_bytes, work_bytes, Finding, Rule,
+};
 use inputs::{encode, Family, Numbers, Rng, FAMILIES};
 use std::arch::asm;
 use std::hint::black_box;
 
-/// What the header promises to stay below.
-const PROMISED: usize = 48 * 1024;
+/// What the header promises that a plan stays below.
+const PLAN: usize = 48 * 1024;
+
+/// What the header promises that a check stays below.
+const CHECK: usize = 64 * 1024;
 
 /// The stack that is lent, far more than what is promised.
-const STACK: usize = 32 * PROMISED;
+const STACK: usize = 1024 * 1024;
 
 /// 16 bytes of stack: a stack's top stands at a multiple of 16.
 #[derive(Clone, Copy)]
@@ -26,6 +31,7 @@ struct Call {
     assignments: Vec<u8>,
     work: Vec<u8>,
     planned: bool,
+    checked: Option<Finding>,
 }
 
 impl Call {
@@ -43,6 +49,7 @@ impl Call {
             assignments: vec![0; assignment_bytes(2048)],
             work: vec![0; work_bytes(512, 2048)],
             planned: false,
+            checked: None,
         }
     }
 }
@@ -59,6 +66,19 @@ extern "C" fn make(call: &mut Call) {
         &mut call.work,
     );
     call.planned = answer.is_ok();
+}
+
+/// Checks what is in the areas.
+extern "C" fn check(call: &mut Call) {
+    let answer = check_bytes(
+        call.links,
+        call.wavelengths,
+        call.grid,
+        &call.circuits,
+        &call.fibres,
+        &call.assignments,
+    );
+    call.checked = answer.ok();
 }
 
 /// Calls a function on a stack that is lent.
@@ -100,21 +120,64 @@ fn what_is_written_is_seen() {
     assert!((20_000..40_100).contains(&bytes), "{bytes}");
 }
 
-#[test]
-fn a_call_uses_less_than_32_kb_of_stack() {
+/// The most bytes that a function writes to the stack, for calls at the limits.
+fn most(
+    function: extern "C" fn(&mut Call),
+    prepare: fn(&mut Call),
+    done: impl Fn(&Call) -> bool,
+) -> usize {
     let mut most = 0;
     for family in FAMILIES {
         for numbers in [Numbers::Rising, Numbers::Shuffled] {
             for carried in [(1, 1), (4, 2), (16, 1), (40, 1), (80, 2)] {
                 for paint in [0xa5, 0x5a] {
                     let mut call = Call::new(family, numbers, carried);
-                    let bytes = used(make, &mut call, paint);
-                    assert!(call.planned);
-                    most = most.max(bytes);
+                    prepare(&mut call);
+                    most = most.max(used(function, &mut call, paint));
+                    assert!(done(&call));
                 }
             }
         }
     }
-    println!("a call uses at most {most} bytes of stack");
-    assert!(most < PROMISED, "{most} bytes of stack");
+    most
+}
+
+#[test]
+fn a_plan_uses_less_than_32_kb_of_stack() {
+    let most = most(make, |_| (), |call| call.planned);
+    println!("fibre_plan uses at most {most} bytes of stack");
+    assert!(most < PLAN, "{most} bytes of stack");
+}
+
+/// Plans, and adds dark fibres up to the most that are checked.
+fn plan_and_fill(call: &mut Call) {
+    make(call);
+    let filled = |record: &[u8]| record[0] != 0 || record[1] != 0;
+    let count = call.fibres.chunks_exact(8).filter(|r| filled(r)).count();
+    call.fibres.truncate(8 * count);
+    for number in count as u16 + 1..=4096 {
+        let [low, high] = number.to_le_bytes();
+        call.fibres.extend([low, high, 1, 0, 1, 0, 0, 0]);
+    }
+}
+
+/// Plans and fills, and gives the last circuit the place of the one before it.
+fn plan_and_spoil(call: &mut Call) {
+    plan_and_fill(call);
+    let end = call.assignments.len();
+    let before = end - 12..end - 8;
+    call.assignments.copy_within(before, end - 4);
+    // Both have the same ends.
+    let end = call.circuits.len();
+    call.circuits.copy_within(end - 12..end - 8, end - 4);
+}
+
+#[test]
+fn a_check_uses_less_than_64_kb_of_stack() {
+    let yes = |call: &Call| matches!(call.checked, Some(Finding::Yes { .. }));
+    let (rule, place) = (Rule::Clash, 2048);
+    let no = |call: &Call| call.checked == Some(Finding::No { rule, place });
+    let most = most(check, plan_and_fill, yes).max(most(check, plan_and_spoil, no));
+    println!("fibre_check uses at most {most} bytes of stack");
+    assert!(most < CHECK, "{most} bytes of stack");
 }

@@ -1,5 +1,8 @@
 //! The typed function says what the byte level says.
-use fibre_plan::{plan, plan_bytes, Assignment, Circuit, End, Fibre, Grid, Line, Refusal};
+use fibre_plan::{
+    check, check_bytes, plan, plan_bytes, Assignment, Circuit, End, Fibre, Finding, Grid, Line,
+    Plan, Refusal, Rule,
+};
 use inputs::{encode, Family, Numbers, Rng};
 
 fn circuits(list: &[(u32, u16, u16)]) -> Vec<Circuit> {
@@ -44,6 +47,140 @@ fn the_listing() {
     assert_eq!(plan.fibres, fibres);
     assert_eq!(plan.assignments, assignments);
     assert_eq!((plan.total, plan.floor), (9, 6));
+}
+
+/// The listing, and the plan of it.
+fn listing() -> (Line, Vec<Circuit>, Plan) {
+    let circuits = circuits(&[(10, 1, 3), (20, 2, 5), (30, 1, 2), (40, 4, 5)]);
+    let plan = plan(line(5, 2), &circuits).unwrap();
+    (line(5, 2), circuits, plan)
+}
+
+/// What is said of the plan of the listing after a change.
+fn found(change: impl Fn(&mut Plan)) -> Result<Finding, Refusal> {
+    let (line, circuits, mut plan) = listing();
+    change(&mut plan);
+    check(line, &circuits, &plan.fibres, &plan.assignments)
+}
+
+/// A rule that a change of the plan of the listing breaks, at a place, and how that is told.
+type Broken = (Rule, usize, fn(&mut Plan), &'static str);
+
+const BROKEN: [Broken; 8] = [
+    (
+        Rule::FibreNumber,
+        2,
+        |p| p.fibres[1].number = 3,
+        "rule 1, fibre 2: its number is not its place",
+    ),
+    (
+        Rule::FibreSpan,
+        1,
+        |p| p.fibres[0].last = 6,
+        "rule 2, fibre 1: first link 0 or past the last, or last link past the line",
+    ),
+    (
+        Rule::AssignmentCount,
+        0,
+        |p| p.assignments.truncate(3),
+        "rule 3: not as many assignments as circuits",
+    ),
+    (
+        Rule::CircuitNumber,
+        3,
+        |p| p.assignments.swap(2, 3),
+        "rule 4, assignment 3: not the circuit number of that place",
+    ),
+    (
+        Rule::NoSuchFibre,
+        4,
+        |p| p.assignments[3].fibre = 3,
+        "rule 5, assignment 4: no such fibre",
+    ),
+    (
+        Rule::NotSpanned,
+        1,
+        |p| p.assignments[0].fibre = 2,
+        "rule 6, assignment 1: the fibre does not span the circuit",
+    ),
+    (
+        Rule::Wavelength,
+        2,
+        |p| p.assignments[1].wavelength = 3,
+        "rule 7, assignment 2: the wavelength is not 1 to the line's number of wavelengths",
+    ),
+    (
+        Rule::Clash,
+        3,
+        |p| p.assignments[1].fibre = 1,
+        "rule 8, assignment 3: it clashes with an earlier assignment",
+    ),
+];
+
+#[test]
+fn each_rule() {
+    let yes = Finding::Yes {
+        length: 9,
+        floor: 6,
+    };
+    assert_eq!(found(|_| ()), Ok(yes));
+    assert_eq!(yes.to_string(), "valid: length 9, floor 6");
+    for ((rule, place, change, text), number) in BROKEN.into_iter().zip(1..) {
+        let no = Finding::No { rule, place };
+        assert_eq!(found(change), Ok(no));
+        assert_eq!((rule.number(), no.to_string().as_str()), (number, text));
+    }
+}
+
+#[test]
+fn lists_that_are_too_long() {
+    let (line, circuits, plan) = listing();
+    let dark = |number| Fibre {
+        number,
+        ..plan.fibres[0]
+    };
+    let fibres: Vec<Fibre> = (1..=5000).map(dark).collect();
+    let assignments = plan.assignments.repeat(600);
+    let lengths = [4096, 4097, 5000].map(|many| {
+        let found = check(line, &circuits, &fibres[..many], &assignments[..2048]);
+        found.map(|found| matches!(found, Finding::No { place: 0, .. }))
+    });
+    let refused = Err(Refusal::FibreList);
+    assert_eq!(lengths, [Ok(true), refused, refused]);
+    for many in [2049, 2400] {
+        let found = check(line, &circuits, &fibres[..4096], &assignments[..many]);
+        assert_eq!(found, Err(Refusal::AssignmentList));
+    }
+}
+
+#[test]
+fn refusals_of_a_check() {
+    let (line, circuits, plan) = listing();
+    let Plan {
+        fibres,
+        assignments,
+        ..
+    } = plan;
+    let answer = |line, circuits: &[Circuit]| check(line, circuits, &fibres, &assignments);
+    let refused = |line, circuits: &[Circuit]| answer(line, circuits).unwrap_err();
+    let many = circuits.repeat(600);
+    assert_eq!(refused(line, &many), Refusal::Circuits);
+    assert_eq!(refused(line, &many[..5]), Refusal::Repeated { place: 5 });
+    let wrong = Line { links: 4, ..line };
+    let end = End::LastPastLine;
+    assert_eq!(refused(wrong, &circuits), Refusal::Ends { place: 2, end });
+    let wrong = Line { links: 513, ..line };
+    assert_eq!(refused(wrong, &circuits), Refusal::Links);
+    let wrong = Line {
+        wavelengths: 41,
+        ..line
+    };
+    assert_eq!(refused(wrong, &circuits), Refusal::Wavelengths);
+    assert_eq!(check_bytes(5, 2, 3, &[], &[], &[1]), Err(Refusal::Grid));
+    assert_eq!(
+        check_bytes(5, 2, 2, &[], &[], &[1]),
+        Err(Refusal::AssignmentList)
+    );
 }
 
 #[test]
@@ -157,6 +294,14 @@ fn refusals_as_text() {
         "refusal 10: the work area is too short"
     );
     assert_eq!(
+        Refusal::FibreList.to_string(),
+        "refusal 16, list 1: the fibre list is not whole records, or more than 4,096"
+    );
+    assert_eq!(
+        Refusal::AssignmentList.to_string(),
+        "refusal 16, list 2: the assignment list is not whole records, or more than 2,048"
+    );
+    assert_eq!(
         Refusal::Grid.to_string(),
         "refusal 12: the grid is neither 1 nor 2"
     );
@@ -164,6 +309,25 @@ fn refusals_as_text() {
         Refusal::Wavelengths.to_string(),
         "refusal 4: the number of wavelengths is not 1 to 40, on grid 1, or 1 to 80, on grid 2"
     );
+}
+
+#[test]
+fn fibres_and_assignments_are_read_back() {
+    let fibre = Fibre {
+        number: 0x0102,
+        first: 0x0304,
+        last: 0x0506,
+        layer: 0x0708,
+    };
+    assert_eq!(fibre.to_bytes(), [2, 1, 4, 3, 6, 5, 8, 7]);
+    assert_eq!(Fibre::from_bytes(&fibre.to_bytes()), fibre);
+    let assignment = Assignment {
+        circuit: 0x0102_0304,
+        fibre: 0x0506,
+        wavelength: 0x0708,
+    };
+    assert_eq!(assignment.to_bytes(), [4, 3, 2, 1, 6, 5, 8, 7]);
+    assert_eq!(Assignment::from_bytes(&assignment.to_bytes()), assignment);
 }
 
 #[test]

@@ -1,4 +1,4 @@
-//! Runs the built programs and `plan` in folders of their own, for tests of what they print and leave.
+//! Runs the built programs and the scripts in folders of their own, for tests of what they print and leave.
 //!
 //! The programs stand in the folder that `FIBRE_PLAN_BIN_DIR` names, or where the repository's own
 //! build puts them.
@@ -6,7 +6,9 @@
 
 mod draws;
 mod folder;
+pub mod house;
 mod line;
+mod pair;
 mod run;
 mod sheet;
 pub mod texts;
@@ -14,11 +16,12 @@ pub mod texts;
 pub use draws::random_line;
 pub use folder::{Entry, Folder};
 pub use line::Line;
+pub use pair::{Pair, State};
 pub use run::{
     as_nobody, program, run, run_as_nobody, run_command, run_without_input, start, Ran,
     UNREAD_INPUT,
 };
-pub use sheet::{assert_same, sheet_of, text_of};
+pub use sheet::{assert_same, lists_of, sheet_of, text_of};
 
 use std::env;
 use std::path::{Path, PathBuf};

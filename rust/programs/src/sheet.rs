@@ -8,35 +8,49 @@ fn two_at(record: &[u8], at: usize) -> u16 {
     u16::from_le_bytes([record[at], record[at + 1]])
 }
 
-/// The sheet of the records of a line, by the reference: its lines, or the line of the refusal.
-pub fn sheet_of(line: impl Into<Line>, circuits: &[u8]) -> String {
-    let line = line.into();
-    let grid = line.grid_meant();
+/// The plan of the records of a line, by the reference: its three numbers and both lists, or the refusal.
+fn plan_of(
+    line: Line,
+    circuits: &[u8],
+) -> Result<(reference::Counts, [Vec<u8>; 2]), reference::Refused> {
     let [n, w] = [line.n, line.w].map(usize::from);
+    let grid = line.grid_meant();
     let many = circuits.len() / 8;
     let mut fibres = vec![0; 8 * many];
     let mut assignments = vec![0; 8 * many];
     let mut work = vec![0; 4 * n + 4 * many];
-    let planned = reference::plan(
+    let counts = reference::plan(
         reference::Line { n, w, grid },
         circuits,
         &mut fibres,
         &mut assignments,
         &mut work,
-    );
-    let counts = match planned {
-        Ok(counts) => counts,
+    )?;
+    fibres.truncate(8 * counts.fibres);
+    Ok((counts, [fibres, assignments]))
+}
+
+/// The bytes of `fibres.rec` and `assign.rec` for the records of a line, by the reference; none where they are refused.
+pub fn lists_of(line: impl Into<Line>, circuits: &[u8]) -> Option<[Vec<u8>; 2]> {
+    plan_of(line.into(), circuits).ok().map(|(_, lists)| lists)
+}
+
+/// The sheet of the records of a line, by the reference: its lines, or the line of the refusal.
+pub fn sheet_of(line: impl Into<Line>, circuits: &[u8]) -> String {
+    let line = line.into();
+    let (counts, [fibres, assignments]) = match plan_of(line, circuits) {
+        Ok(planned) => planned,
         Err(refused) => return format!("R {} {} {}\n", refused.number, refused.place, refused.end),
     };
     let mut text = String::new();
-    for record in fibres.chunks_exact(8).take(counts.fibres) {
+    for record in fibres.chunks_exact(8) {
         let [number, first, last, layer] = [0, 2, 4, 6].map(|at| two_at(record, at));
         writeln!(text, "F {number} {first} {last} {layer}").unwrap();
     }
     for record in assignments.chunks_exact(8) {
         let number = u32::from_le_bytes(record[..4].try_into().unwrap());
         let [fibre, wavelength] = [4, 6].map(|at| two_at(record, at));
-        let frequency = reference::frequency(grid, wavelength);
+        let frequency = reference::frequency(line.grid_meant(), wavelength);
         writeln!(text, "C {number} {fibre} {wavelength} {frequency}").unwrap();
     }
     writeln!(

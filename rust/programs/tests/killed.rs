@@ -1,9 +1,8 @@
-//! `enter` is ended at each of its calls of the system: the folder then has the old pair, the new pair, or is refused.
+//! `enter` and `lists` are ended at each of their calls of the system: the folder then has the old pair, the new pair, or no
+//! last file, without which the pair is refused.
 //!
 //! Where no process can be traced it fails, unless `FIBRE_PLAN_NO_TRACE` is set: then it says that it was not tried.
-use inputs::encode;
-use programs::texts::LISTING;
-use programs::{program, run, sheet_of, start, text_of, Folder};
+use programs::{program, start, Folder, Pair, State};
 use std::env;
 use std::ffi::{c_int, c_long, c_void};
 use std::fs::{self, File};
@@ -33,10 +32,10 @@ fn stops(pid: c_int) -> bool {
     status & 0xff == 0x7f
 }
 
-/// Runs `enter` and ends it before its system call of this number, counted from 0, takes effect; whether it came so far.
-fn enter_until(calls: usize, folder: &Folder, text: &str) -> bool {
-    let input = Folder::with(&[("text", text.as_bytes())]);
-    let mut command = Command::new(program("enter"));
+/// Runs a program and ends it before its system call of this number, counted from 0, takes effect; whether it came so far.
+fn run_until(calls: usize, pair: &Pair, folder: &Folder) -> bool {
+    let input = Folder::with(&[("text", &pair.input)]);
+    let mut command = Command::new(program(pair.program));
     command.current_dir(folder.path()).stdout(Stdio::null());
     command.stdin(File::open(input.at("text")).unwrap());
     // Fewer calls before the program's own.
@@ -80,53 +79,51 @@ fn not_tried() -> bool {
     told
 }
 
-/// From a folder with an old pair, which is then made ready, `enter` is ended at each of its calls: what is then in the
-/// folder is the old pair, from some call on no pair, and from some call on the new pair.
-fn ended_at_each_call(ready: impl Fn(&Folder)) {
+/// From a folder with an old pair, which is then made ready, a program is ended at each of its calls: what is then in the
+/// folder is the old pair, from some call on no last file, and from some call on the new pair.
+fn ended_at_each_call(pair: &Pair, ready: impl Fn(&Folder)) {
     if not_tried() {
         return;
     }
-    let old = encode(&[(77, 8, 9)]);
-    let (text, new) = (text_of((5, 2, 2), &LISTING), encode(&LISTING));
-    let just_new = Folder::with_records((5, 2, 2), &new).entries();
-    let sheets = [
-        sheet_of((9, 3), &old),
-        "R 11 0 0\n".to_owned(),
-        sheet_of((5, 2, 2), &new),
-    ];
-    // Which of the three a folder has, from the first call to the last.
+    let name = pair.program;
+    // What a folder has, from the first call to the last.
     let mut met = Vec::new();
     for calls in 0.. {
-        let folder = Folder::with_records((9, 3), &old);
+        let folder = pair.with_old();
         ready(&folder);
-        let ended = enter_until(calls, &folder, &text);
-        let sheet = run("sheet", &folder, b"");
-        let which = sheets.iter().position(|known| *known == sheet);
-        met.push(which.unwrap_or_else(|| panic!("ended at call {calls}: {sheet}")));
+        let ended = run_until(calls, pair, &folder);
+        let state = pair.state(&folder);
+        met.push(state.unwrap_or_else(|| panic!("{name}, ended at call {calls}: a mixed pair")));
         if !ended {
             break;
         }
         // What was left does not matter to the next run.
-        assert_eq!(run("enter", &folder, text.as_bytes()), "circuits: 4\n");
-        assert!(folder.entries() == just_new, "ended at call {calls}");
+        assert_eq!(pair.run(&folder), pair.out);
+        let replaced = folder.entries() == pair.replaced();
+        assert!(replaced, "{name}, ended at call {calls}");
     }
     assert!(
         met.len() > 1,
         "no process can be traced here; set FIBRE_PLAN_NO_TRACE to go without this test"
     );
-    let many = [0, 1, 2].map(|state| met.iter().filter(|&&which| which == state).count());
-    println!("ended at each call: old, none and new {many:?} times");
-    assert!(met.is_sorted() && met[0] == 0 && met.ends_with(&[2]));
+    let states = [State::Old, State::Refused, State::New];
+    let many = states.map(|state| met.iter().filter(|&&which| which == state).count());
+    println!("{name}, ended at each call: old, none and new {many:?} times");
+    assert!(met.is_sorted() && many.iter().all(|&times| times > 0));
 }
 
 #[test]
 fn at_every_moment_the_old_pair_or_the_new_or_none() {
-    ended_at_each_call(|_| ());
+    for pair in Pair::listings() {
+        ended_at_each_call(&pair, |_| ());
+    }
 }
 
 #[test]
-fn the_same_with_a_hard_link_to_the_line_at_the_name_of_the_old_line() {
-    ended_at_each_call(|folder| {
-        fs::hard_link(folder.at("line.rec"), folder.at("line.rec.old")).unwrap();
-    });
+fn the_same_with_a_hard_link_to_the_last_file_at_the_name_of_the_old_one() {
+    for pair in Pair::listings() {
+        ended_at_each_call(&pair, |folder| {
+            fs::hard_link(folder.at(pair.last()), folder.at(&pair.old_last())).unwrap();
+        });
+    }
 }

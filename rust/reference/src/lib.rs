@@ -3,6 +3,7 @@
 //! It follows the papers sentence by sentence and does not try to be fast.
 #![deny(missing_docs)]
 
+mod check;
 mod grid;
 mod lit;
 mod paired;
@@ -11,12 +12,15 @@ mod sheet;
 mod slips;
 mod table;
 
+#[doc(hidden)]
+pub use check::check_with;
+pub use check::{check, Finding};
 pub use grid::frequency;
 pub use lit::lit;
 pub use paired::paired;
 pub use records::Circuit;
 #[doc(hidden)]
-pub use slips::{Slip, BASE_SLIPS, END_SLIPS, GRID_SLIPS, LIT_SLIPS};
+pub use slips::{Slip, BASE_SLIPS, CHECK_SLIPS, END_SLIPS, GRID_SLIPS, LIT_SLIPS};
 
 use std::ops::RangeInclusive;
 

@@ -63,6 +63,19 @@ impl Fibre {
     }
 }
 
+/// The number and the fibre of a fibre record.
+pub(crate) fn fibre(record: &[u8]) -> (usize, Fibre) {
+    let [place, first, last, layer] = [0, 2, 4, 6].map(|at| number(&record[at..at + 2]) as usize);
+    let span = first..=last;
+    (place, Fibre { span, layer })
+}
+
+/// The circuit number and the place of an assignment record.
+pub(crate) fn assignment(record: &[u8]) -> (u32, Place) {
+    let [fibre, wavelength] = [4, 6].map(|at| number(&record[at..at + 2]) as usize);
+    (number(&record[0..4]), Place { fibre, wavelength })
+}
+
 /// Writes record i of a list, counted from 0.
 pub fn put(list: &mut [u8], i: usize, record: [u8; 8]) {
     list[8 * i..8 * i + 8].copy_from_slice(&record);

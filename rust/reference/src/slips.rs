@@ -47,6 +47,32 @@ pub enum Slip {
     EndByEnd,
     /// Refusal 5 has end 1.
     EndForFive,
+    /// The lists to be checked are tested before the circuits.
+    ListsFirst,
+    /// Of the lists to be checked, the assignments are tested first.
+    AssignmentListFirst,
+    /// 4,096 fibres are too many to be checked.
+    OneFibreLess,
+    /// 4,097 fibres are not too many to be checked.
+    OneFibreMore,
+    /// 2,049 assignments are not too many to be checked.
+    OneAssignmentMore,
+    /// Each rule is tested over a whole list before the next.
+    RuleByRule,
+    /// A fibre of layer 0 breaks rule 2.
+    LayerNotIgnored,
+    /// Rule 3 comes before the fibres.
+    CountFirst,
+    /// Rule 3 comes after the assignments.
+    CountLast,
+    /// The numbers of rules 5 and 6 are exchanged.
+    FiveForSix,
+    /// Wavelength w + 1 is allowed.
+    OneWavelengthMore,
+    /// Circuits with one fibre and wavelength clash even if they do not overlap.
+    ClashWithoutOverlap,
+    /// Rule 8 has the place of the earlier one.
+    EarlierOfTwo,
 }
 
 /// The mistakes with the base.
@@ -78,3 +104,20 @@ pub const GRID_SLIPS: [Slip; 2] = [Slip::FourBeforeTwelve, Slip::OneLimit];
 
 /// The mistakes with R-6. The order 2, 1, 3 is none: a first link 0 is never past the last.
 pub const END_SLIPS: [Slip; 3] = [Slip::ThreeBeforeTwo, Slip::EndByEnd, Slip::EndForFive];
+
+/// The mistakes with R-7.
+pub const CHECK_SLIPS: [Slip; 13] = [
+    Slip::ListsFirst,
+    Slip::AssignmentListFirst,
+    Slip::OneFibreLess,
+    Slip::OneFibreMore,
+    Slip::OneAssignmentMore,
+    Slip::RuleByRule,
+    Slip::LayerNotIgnored,
+    Slip::CountFirst,
+    Slip::CountLast,
+    Slip::FiveForSix,
+    Slip::OneWavelengthMore,
+    Slip::ClashWithoutOverlap,
+    Slip::EarlierOfTwo,
+];

@@ -73,13 +73,8 @@ fn accepted_line(line: Line, slip: Slip) -> Result<(), Refused> {
     }
 }
 
-/// The circuits of a file that no test refuses; `lengths` are those of the lent areas.
-pub fn accepted(
-    line: Line,
-    file: &[u8],
-    [fibres, assignments, work]: [usize; 3],
-    slip: Slip,
-) -> Result<Vec<Circuit>, Refused> {
+/// The circuits of a file that none of the tests 1 to 7 and 12 refuses.
+pub fn accepted_circuits(line: Line, file: &[u8], slip: Slip) -> Result<Vec<Circuit>, Refused> {
     unless(file.len().is_multiple_of(8), 1)?;
     unless(file.len() / 8 <= 2048, 2)?;
     accepted_line(line, slip)?;
@@ -88,9 +83,42 @@ pub fn accepted(
     accepted_ends(line.n, &circuits, slip)?;
     let mut seen = HashSet::new();
     unless_bad(&circuits, 7, |c| !seen.insert(c.number))?;
+    Ok(circuits)
+}
+
+/// The circuits of a file that no test of the planner refuses; `lengths` are those of the lent areas.
+pub fn accepted(
+    line: Line,
+    file: &[u8],
+    [fibres, assignments, work]: [usize; 3],
+    slip: Slip,
+) -> Result<Vec<Circuit>, Refused> {
+    let circuits = accepted_circuits(line, file, slip)?;
     let each = if slip == Slip::RoomForPairs { 16 } else { 8 };
     unless(fibres >= each * circuits.len(), 8)?;
     unless(assignments >= 8 * circuits.len(), 9)?;
     unless(work >= 4 * line.n + 4 * circuits.len(), 10)?;
     Ok(circuits)
+}
+
+/// Test 16 of one list: whole records, and at most so many.
+fn accepted_list(list: &[u8], most: usize, place: usize) -> Result<(), Refused> {
+    let holds = list.len().is_multiple_of(8) && list.len() / 8 <= most;
+    unless(holds, 16).map_err(|refused| Refused { place, ..refused })
+}
+
+/// Test 16, by R-7: the fibres, then the assignments.
+pub fn accepted_lists(fibres: &[u8], assignments: &[u8], slip: Slip) -> Result<(), Refused> {
+    let most_fibres = match slip {
+        Slip::OneFibreLess => 4095,
+        Slip::OneFibreMore => 4097,
+        _ => 4096,
+    };
+    let most_assignments = 2048 + usize::from(slip == Slip::OneAssignmentMore);
+    let one = accepted_list(fibres, most_fibres, 1);
+    let two = accepted_list(assignments, most_assignments, 2);
+    match slip {
+        Slip::AssignmentListFirst => two.and(one),
+        _ => one.and(two),
+    }
 }

@@ -11,10 +11,10 @@ pub type Counts = [usize; 3];
 pub type Answer = Result<Counts, Refused>;
 
 #[derive(Clone, Copy)]
-struct Circuit {
-    number: u32,
-    first: u16,
-    last: u16,
+pub struct Circuit {
+    pub number: u32,
+    pub first: u16,
+    pub last: u16,
     /// Its place in the file, counted from 0.
     place: u16,
 }
@@ -46,7 +46,7 @@ enum Colour {
 }
 use Colour::{Blue, Open, Red, Taken};
 
-fn unless(holds: bool, number: u32) -> Result<(), Refused> {
+pub fn unless(holds: bool, number: u32) -> Result<(), Refused> {
     holds.then_some(()).ok_or((number, 0, 0))
 }
 
@@ -91,13 +91,12 @@ fn accepted_ends(n: usize, circuits: &[Circuit]) -> Result<(), Refused> {
     ends.find(|(.., end)| *end != 0).map_or(Ok(()), Err)
 }
 
-/// The circuits of a file that no test refuses; `lengths` are those of the lent areas.
-fn accepted(
+/// The circuits of a file that none of the tests 1 to 7 and 12 refuses.
+pub fn accepted_circuits(
     n: usize,
     w: usize,
     grid: usize,
     file: &[u8],
-    [fibres, assignments, work]: [usize; 3],
 ) -> Result<Vec<Circuit>, Refused> {
     let m = file.len() / 8;
     unless(file.len().is_multiple_of(8), 1)?;
@@ -111,6 +110,19 @@ fn accepted(
     unless_at(circuits.iter().position(|c| c.number == 0), 5)?;
     accepted_ends(n, &circuits)?;
     unless_at(repeated(&circuits), 7)?;
+    Ok(circuits)
+}
+
+/// The circuits of a file that no test refuses; `lengths` are those of the lent areas.
+fn accepted(
+    n: usize,
+    w: usize,
+    grid: usize,
+    file: &[u8],
+    [fibres, assignments, work]: [usize; 3],
+) -> Result<Vec<Circuit>, Refused> {
+    let circuits = accepted_circuits(n, w, grid, file)?;
+    let m = circuits.len();
     unless(8 * m <= fibres, 8)?;
     unless(8 * m <= assignments, 9)?;
     unless(4 * n + 4 * m <= work, 10)?;
@@ -118,7 +130,7 @@ fn accepted(
 }
 
 /// Each link's c(i); index 0 is no link.
-fn needs(n: usize, w: usize, circuits: &[Circuit]) -> Vec<usize> {
+pub fn needs(n: usize, w: usize, circuits: &[Circuit]) -> Vec<usize> {
     let mut load = vec![0usize; n + 1];
     for c in circuits {
         let (first, last) = c.ends();

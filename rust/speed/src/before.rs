@@ -6,11 +6,12 @@ use std::path::{Path, PathBuf};
 use std::process::Command;
 use std::{env, fs, mem, process};
 
-/// What the function of an archive answers. The archive before has no end.
+/// What the function of an archive answers.
 #[repr(C)]
 struct PlanAnswer {
     refusal: u32,
     place: u32,
+    end: u32,
     fibres: usize,
     total: usize,
     floor: usize,
@@ -102,7 +103,7 @@ impl Before {
         };
         match answer.refusal {
             0 => Ok([answer.fibres, answer.total, answer.floor]),
-            number => Err((number, answer.place as usize, 0)),
+            number => Err((number, answer.place as usize, answer.end)),
         }
     }
 }

@@ -2,6 +2,8 @@
 use crate::baseline;
 use crate::before::Before;
 use crate::clock;
+use crate::plain_check;
+use fibre_plan::Finding;
 use inputs::{encode, Family, Numbers, Rng};
 use std::hint::black_box;
 
@@ -30,6 +32,12 @@ pub struct Times {
     pub plain_seven: f64,
     /// That of the archive before; as large as can be where there is none.
     pub before: f64,
+    /// Ours for a yes to the plan that was written.
+    pub check: f64,
+    /// Plain Rust's for a yes to the plan that was written, by sorting.
+    pub sorting_check: f64,
+    /// The same by hashing.
+    pub hashing_check: f64,
 }
 
 impl Times {
@@ -41,6 +49,9 @@ impl Times {
         seven: f64::MAX,
         plain_seven: f64::MAX,
         before: f64::MAX,
+        check: f64::MAX,
+        sorting_check: f64::MAX,
+        hashing_check: f64::MAX,
     };
 
     pub fn ratio(&self) -> f64 {
@@ -50,6 +61,16 @@ impl Times {
     /// Ours over the time of the archive before.
     pub fn ratio_before(&self) -> f64 {
         self.ours / self.before
+    }
+
+    /// Our check over plain Rust's by sorting.
+    pub fn ratio_to_sorting(&self) -> f64 {
+        self.check / self.sorting_check
+    }
+
+    /// Our check over plain Rust's by hashing.
+    pub fn ratio_to_hashing(&self) -> f64 {
+        self.check / self.hashing_check
     }
 
     /// The ratio without tests 1 to 7 on either side.
@@ -96,6 +117,8 @@ struct Lent {
     areas: Areas,
     /// With an assignment list that is too short, so that a call ends after test 7.
     short: Areas,
+    /// With a plan in the lists, and nothing behind it.
+    planned: Areas,
 }
 
 impl Lent {
@@ -106,11 +129,15 @@ impl Lent {
         spoilt[last_link..].fill(0);
         let mut short = areas.clone();
         short.assignments.pop();
+        let mut planned = areas.clone();
+        let [count, ..] = case.ours(&file, &mut planned).expect("a plan");
+        planned.fibres.truncate(8 * count);
         Self {
             file,
             spoilt,
             areas,
             short,
+            planned,
         }
     }
 }
@@ -122,6 +149,16 @@ fn timed<T>(areas: &mut Areas, call: impl FnOnce(&mut Areas) -> T) -> f64 {
     black_box(call(areas));
     clock::now() - start
 }
+
+/// A check of the plan in the areas.
+type Check = fn(&Case, &[u8], &Areas) -> plain_check::Answer;
+
+/// Ours, and plain Rust's two.
+const CHECKS: [Check; 3] = [
+    Case::check_ours,
+    Case::check_by_sorting,
+    Case::check_by_hashing,
+];
 
 impl Case {
     fn file(&self) -> Vec<u8> {
@@ -169,6 +206,29 @@ impl Case {
         )
     }
 
+    fn check_ours(&self, file: &[u8], lists: &Areas) -> plain_check::Answer {
+        let (fibres, assignments) = (&lists.fibres, &lists.assignments);
+        let (n, w) = (self.links, self.wavelengths);
+        fibre_plan::check_bytes(n, w, GRID, file, fibres, assignments)
+            .map(|found| match found {
+                Finding::Yes { length, floor } => Ok([length, floor]),
+                Finding::No { rule, place } => Err((rule.number(), place)),
+            })
+            .map_err(|r| (r.number(), r.place(), r.end()))
+    }
+
+    fn check_by_sorting(&self, file: &[u8], lists: &Areas) -> plain_check::Answer {
+        let (fibres, assignments) = (&lists.fibres, &lists.assignments);
+        let (n, w, way) = (self.links, self.wavelengths, plain_check::by_sorting);
+        plain_check::check(n, w, GRID, file, fibres, assignments, way)
+    }
+
+    fn check_by_hashing(&self, file: &[u8], lists: &Areas) -> plain_check::Answer {
+        let (fibres, assignments) = (&lists.fibres, &lists.assignments);
+        let (n, w, way) = (self.links, self.wavelengths, plain_check::by_hashing);
+        plain_check::check(n, w, GRID, file, fibres, assignments, way)
+    }
+
     fn before(&self, planner: &Before, file: &[u8], to: &mut Areas) -> baseline::Answer {
         let areas = [&mut to.fibres, &mut to.assignments, &mut to.work];
         let areas = areas.map(Vec::as_mut_slice);
@@ -187,9 +247,28 @@ impl Case {
         assert_eq!(after_six, self.plain(&lent.spoilt, &mut lent.areas));
         assert_eq!(self.ours(&lent.file, &mut lent.short), Err((9, 0, 0)));
         assert_eq!(self.plain(&lent.file, &mut lent.short), Err((9, 0, 0)));
+        let [_, total, floor] = answer.expect("a plan");
+        for check in CHECKS {
+            let found = check(self, &lent.file, &lent.planned);
+            assert_eq!(found, Ok(Ok([total, floor])));
+        }
         if let Some(planner) = before {
             let answer = self.before(planner, &lent.file, &mut lent.areas);
             assert!(answer.is_ok(), "the archive before refuses: {answer:?}");
+        }
+    }
+
+    /// Calls each check once, and keeps times that are better than those so far.
+    fn round_of_checks(&self, lent: &Lent, best: &mut Times) {
+        let times = [
+            &mut best.check,
+            &mut best.sorting_check,
+            &mut best.hashing_check,
+        ];
+        for (best, check) in times.into_iter().zip(CHECKS) {
+            let start = clock::now();
+            let _ = black_box(check(self, &lent.file, &lent.planned));
+            *best = best.min(clock::now() - start);
         }
     }
 
@@ -200,6 +279,7 @@ impl Case {
             spoilt,
             areas,
             short,
+            ..
         } = lent;
         let keep = |best: &mut f64, time: f64| *best = best.min(time);
         keep(&mut best.ours, timed(areas, |to| self.ours(file, to)));
@@ -221,6 +301,7 @@ impl Case {
         let mut best = Times::WORST;
         for _ in 0..rounds {
             self.round(&mut lent, before, &mut best);
+            self.round_of_checks(&lent, &mut best);
         }
         best
     }

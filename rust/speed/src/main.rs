@@ -1,4 +1,4 @@
-//! Times of the proved planner beside those of the same planner in plain Rust, as Markdown.
+//! Times of the proved planner and of the proved check beside those of the same in plain Rust, as Markdown.
 //!
 //! `speed [ROUNDS]`: the best of so many rounds is taken, 7 if none is named. Where `FIBRE_PLAN_BEFORE` names another
 //! archive, that one is measured too.
@@ -6,6 +6,7 @@ mod baseline;
 mod before;
 mod case;
 mod clock;
+mod plain_check;
 
 use before::Before;
 use case::{Case, Times};
@@ -108,6 +109,33 @@ fn print_before(measured: &[(Case, Times)]) {
     println!();
 }
 
+/// The least and the greatest of some times.
+fn range(measured: &[(Case, Times)], time: fn(&Times) -> f64) -> String {
+    let times = || measured.iter().map(|(_, times)| time(times));
+    let (least, greatest) = (
+        times().fold(f64::MAX, f64::min),
+        times().fold(0.0, f64::max),
+    );
+    format!("{least:.0} to {greatest:.0} µs")
+}
+
+/// Our check's time over that of plain Rust, which finds clashes in two ways.
+fn print_checks(measured: &[(Case, Times)]) {
+    println!("### A yes to each of these plans: our check over plain Rust's\n");
+    println!("| cases | by sorting, geometric mean | worst | by hashing, geometric mean | worst |");
+    println!("|---|---:|---:|---:|---:|");
+    print_ratios(
+        measured,
+        &[Times::ratio_to_sorting, Times::ratio_to_hashing],
+    );
+    println!(
+        "\nOurs {}; by sorting {}; by hashing {}.",
+        range(measured, |times| times.check),
+        range(measured, |times| times.sorting_check),
+        range(measured, |times| times.hashing_check)
+    );
+}
+
 /// Our time and the ratio for each family, at some sizes.
 fn print_growth(sizes: &[(usize, usize)], rounds: usize) {
     println!(
@@ -147,6 +175,8 @@ fn main() {
         print_before(&measured);
     }
     print_cases(&measured);
+    println!();
+    print_checks(&measured);
     println!("\n### Growth: ours in µs, and the ratio; numbers shuffled, w = 4\n");
     print_growth(
         &[16, 128, 512, 2048].map(|circuits| (LINKS, circuits)),

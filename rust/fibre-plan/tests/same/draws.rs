@@ -91,7 +91,7 @@ const BAD_GRIDS: [usize; 8] = [
 ];
 
 /// Spoils one number of the line.
-fn spoil_line(line: &mut Line, rng: &mut Rng) {
+pub fn spoil_line(line: &mut Line, rng: &mut Rng) {
     match rng.within(0, 2) {
         0 => line.n = BAD_LINKS[rng.within(0, 5)],
         1 => line.w = BAD_WAVELENGTHS[rng.within(0, 7)],
@@ -100,20 +100,18 @@ fn spoil_line(line: &mut Line, rng: &mut Rng) {
 }
 
 /// Writes a two-byte field of a record.
-fn set_half(file: &mut [u8], at: usize, x: usize) {
+pub fn set_half(file: &mut [u8], at: usize, x: usize) {
     file[at..at + 2].copy_from_slice(&(x as u16).to_le_bytes());
 }
 
-/// Spoils one record.
-fn spoil_record(input: &mut Input, rng: &mut Rng) {
-    let many = input.circuits.len() / 8;
+/// Spoils one circuit record.
+pub fn spoil_record(file: &mut [u8], links: usize, rng: &mut Rng) {
+    let many = file.len() / 8;
     if many == 0 {
         return;
     }
     let at = 8 * rng.within(0, many - 1);
     let other = 8 * rng.within(0, many - 1);
-    let links = input.line.n;
-    let file = &mut input.circuits;
     match rng.within(0, 6) {
         0 => file[at..at + 4].fill(0),
         1 => set_half(file, at + 4, 0),
@@ -129,17 +127,22 @@ fn spoil_record(input: &mut Input, rng: &mut Rng) {
     }
 }
 
-/// Makes the file shorter or longer, or a lent area too short.
-fn spoil_length(input: &mut Input, rng: &mut Rng) {
-    let area = rng.within(0, 2);
-    let file = &mut input.circuits;
-    match rng.within(0, 4) {
-        0 => file.truncate(file.len().saturating_sub(rng.within(1, 9))),
-        1 => file.resize(file.len() + rng.within(1, 9), 1),
-        2 => file.resize(8 * 2048 + rng.within(1, 9), 1),
-        3 => input.lengths[area] = input.lengths[area].saturating_sub(1),
-        _ => input.lengths[area] = 0,
+/// Makes a list of at most so many records shorter or longer, or too long.
+pub fn spoil_length(list: &mut Vec<u8>, most: usize, rng: &mut Rng) {
+    match rng.within(0, 2) {
+        0 => list.truncate(list.len().saturating_sub(rng.within(1, 9))),
+        1 => list.resize(list.len() + rng.within(1, 9), 1),
+        _ => list.resize(8 * most + rng.within(1, 9), 1),
     }
+}
+
+/// Makes a lent area too short.
+fn spoil_room(input: &mut Input, rng: &mut Rng) {
+    let length = &mut input.lengths[rng.within(0, 2)];
+    *length = match rng.within(0, 1) {
+        0 => length.saturating_sub(1),
+        _ => 0,
+    };
 }
 
 /// An input with one to four faults, some of which may undo each other.
@@ -148,8 +151,9 @@ pub fn damaged(rng: &mut Rng) -> Input {
     for _ in 0..rng.within(1, 4) {
         match rng.within(0, 9) {
             0 | 1 => spoil_line(&mut input.line, rng),
-            2..=4 => spoil_length(&mut input, rng),
-            _ => spoil_record(&mut input, rng),
+            2 | 3 => spoil_length(&mut input.circuits, LARGE.circuits, rng),
+            4 => spoil_room(&mut input, rng),
+            _ => spoil_record(&mut input.circuits, input.line.n, rng),
         }
     }
     input

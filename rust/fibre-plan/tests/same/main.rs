@@ -1,6 +1,9 @@
 //! The library and a reference written from the papers alone agree on every answer and every byte.
 mod areas;
+mod checks;
 mod draws;
+mod pages;
+mod submitted;
 
 use areas::{Answer, Input, Seen};
 use draws::{accepted, damaged, full_size, rng_of, Size, LARGE, MIDDLE, SMALL};

@@ -1,38 +1,28 @@
 //! What `plan` prints, with which status, and when it builds.
-mod house;
+mod keeping;
 
-use house::{House, PROGRAMS};
 use inputs::{encode, Circuit};
+use programs::house::{printed, told, House};
 use programs::texts::LISTING;
 use programs::{
-    as_nobody, assert_same, repository, run_command, sheet_of, start, text_of, Ran, UNREAD_INPUT,
+    as_nobody, assert_same, repository, run_command, sheet_of, start, text_of, UNREAD_INPUT,
 };
 use std::fs;
 use std::io::Read;
 use std::os::unix::fs::symlink;
 use std::process::Stdio;
 
-/// A run printed this and nothing else, with this status.
-#[track_caller]
-fn printed(ran: Ran, out: &str, status: i32) {
-    assert_same(&ran.out, out);
-    assert_eq!((ran.err.as_str(), ran.status), ("", Some(status)));
-}
+/// The programs that it may call.
+const PROGRAMS: [&str; 3] = ["sheet", "typed", "lists"];
 
-/// A run printed nothing and told this, with this status.
-#[track_caller]
-fn told(ran: Ran, words: &str, status: i32) {
-    assert!(ran.err.contains(words), "{ran:?} does not tell {words:?}");
-    assert_eq!(
-        (ran.out.as_str(), ran.status),
-        ("", Some(status)),
-        "{ran:?}"
-    );
+/// A repository in small with all of them.
+fn house() -> House {
+    House::new("plan", &PROGRAMS)
 }
 
 #[test]
 fn the_samples() {
-    let house = House::new();
+    let house = house();
     for sample in ["samples/listing", "samples/coast"] {
         let folder = repository().join(sample);
         let line = fs::read(folder.join("line.rec")).unwrap();
@@ -47,11 +37,13 @@ fn the_samples() {
 
 #[test]
 fn grid_2() {
-    let house = House::new();
+    let house = house();
     let sheet = sheet_of((5, 2, 2), &encode(&LISTING));
     house.listing("records");
-    house.0.put("records/line.rec", &[5, 0, 2, 0, 2, 0]);
-    house.0.put("text", text_of((5, 2, 2), &LISTING).as_bytes());
+    house.folder.put("records/line.rec", &[5, 0, 2, 0, 2, 0]);
+    house
+        .folder
+        .put("text", text_of((5, 2, 2), &LISTING).as_bytes());
     for path in ["records", "text"] {
         printed(house.run(&[path]), &sheet, 0);
     }
@@ -59,8 +51,8 @@ fn grid_2() {
 
 #[test]
 fn a_refused_folder() {
-    let house = House::new();
-    house.0.put_folder("empty");
+    let house = house();
+    house.folder.put_folder("empty");
     printed(house.run(&["empty"]), "R 11 0 0\n", 1);
     house.listing("bad");
     for (line, refusal) in [
@@ -69,16 +61,16 @@ fn a_refused_folder() {
         (&[5, 0, 2, 0, 3, 0], "R 12 0 0\n"),
         (&[5, 0, 2, 0, 2], "R 11 0 0\n"),
     ] {
-        house.0.put("bad/line.rec", line);
+        house.folder.put("bad/line.rec", line);
         printed(house.run(&["bad"]), refusal, 1);
     }
-    house.0.put("bad/line.rec", &[4, 0, 2, 0]);
+    house.folder.put("bad/line.rec", &[4, 0, 2, 0]);
     printed(house.run(&["bad"]), "R 6 2 3\n", 1);
 }
 
 #[test]
 fn a_refused_text() {
-    let house = House::new();
+    let house = house();
     for (text, refusal) in [
         ("5 41\n", "R 4 0 0\n"),
         ("5 2 3\n", "R 12 0 0\n"),
@@ -86,7 +78,7 @@ fn a_refused_text() {
         ("5 2\n10 3 1\n", "R 6 1 2\n"),
         ("5 2\n10 3 6\n", "R 6 1 3\n"),
     ] {
-        house.0.put("text", text.as_bytes());
+        house.folder.put("text", text.as_bytes());
         let ran = house.run(&["text"]);
         assert!(ran.out.starts_with(refusal), "{ran:?}");
         assert_eq!((ran.err.as_str(), ran.status), ("", Some(1)));
@@ -95,9 +87,9 @@ fn a_refused_text() {
 
 #[test]
 fn a_wrong_text() {
-    let house = House::new();
+    let house = house();
     for text in ["", "5\n", "5 2 x\n", "5 2\n10 1\n"] {
-        house.0.put("text", text.as_bytes());
+        house.folder.put("text", text.as_bytes());
         let ran = house.run(&["text"]);
         assert!(
             ran.out.starts_with("line ") && ran.out.ends_with('\n'),
@@ -105,7 +97,7 @@ fn a_wrong_text() {
         );
         assert_eq!((ran.err.as_str(), ran.status), ("", Some(1)));
     }
-    house.0.put("text", &[b' '; 1_048_577]);
+    house.folder.put("text", &[b' '; 1_048_577]);
     let ran = house.run(&["text"]);
     assert!(
         ran.out.contains("1048576 bytes") && ran.status == Some(1),
@@ -115,7 +107,7 @@ fn a_wrong_text() {
 
 #[test]
 fn wrong_use() {
-    let house = House::new();
+    let house = house();
     house.listing("folder");
     // Nothing is built for a wrong use.
     fs::remove_file(house.built("sheet")).unwrap();
@@ -125,14 +117,14 @@ fn wrong_use() {
     for path in ["", "nobody", "folder/nobody", "no body", "-n", "/dev/null"] {
         told(house.run(&[path]), &format!("'{path}' is neither"), 2);
     }
-    symlink("nowhere", house.0.at("dangling")).unwrap();
+    symlink("nowhere", house.folder.at("dangling")).unwrap();
     told(house.run(&["dangling"]), "'dangling' is neither", 2);
     assert!(house.calls().is_empty());
 }
 
 #[test]
 fn the_use() {
-    let house = House::new();
+    let house = house();
     for word in ["-h", "--help"] {
         let ran = house.run(&[word]);
         assert!(ran.out.starts_with("usage: plan DIR "), "{ran:?}");
@@ -143,7 +135,7 @@ fn the_use() {
 
 #[test]
 fn strange_paths() {
-    let house = House::new();
+    let house = house();
     for name in [
         "-",
         "-x",
@@ -159,25 +151,29 @@ fn strange_paths() {
         let sheet = house.listing(name);
         printed(house.run(&[name]), &sheet, 0);
         let text = format!("{name}/-t x t");
-        house.0.put(&text, text_of((5, 2), &LISTING).as_bytes());
+        house
+            .folder
+            .put(&text, text_of((5, 2), &LISTING).as_bytes());
         printed(house.run(&[&text]), &sheet, 0);
         printed(house.run(&[&house.path(&text)]), &sheet, 0);
     }
     for name in ["-e", "-n", "text with spaces"] {
-        house.0.put(name, b"1 1\n");
+        house.folder.put(name, b"1 1\n");
         printed(house.run(&[name]), "T 0 0 0\n", 0);
     }
 }
 
 #[test]
 fn from_any_folder_and_by_links() {
-    let house = House::new();
+    let house = house();
     let sheet = house.listing("a/b");
-    house.0.put("a/text", text_of((5, 2), &LISTING).as_bytes());
-    house.0.put_folder("elsewhere/deep");
-    symlink(house.0.at("plan"), house.0.at("elsewhere/plan")).unwrap();
-    symlink("../plan", house.0.at("elsewhere/deep/again")).unwrap();
-    symlink(house.0.at("a/b"), house.0.at("elsewhere/records")).unwrap();
+    house
+        .folder
+        .put("a/text", text_of((5, 2), &LISTING).as_bytes());
+    house.folder.put_folder("elsewhere/deep");
+    symlink(house.folder.at("plan"), house.folder.at("elsewhere/plan")).unwrap();
+    symlink("../plan", house.folder.at("elsewhere/deep/again")).unwrap();
+    symlink(house.folder.at("a/b"), house.folder.at("elsewhere/records")).unwrap();
     for (folder, plan, path) in [
         ("a", "../plan", "b"),
         ("a", "../plan", "text"),
@@ -187,12 +183,12 @@ fn from_any_folder_and_by_links() {
         ("elsewhere", "deep/again", "../a/text"),
         ("elsewhere/deep", "./again", "../../a/b"),
     ] {
-        let mut command = house.plan_by(plan);
-        command.current_dir(house.0.at(folder)).arg(path);
+        let mut command = house.command_by(plan);
+        command.current_dir(house.folder.at(folder)).arg(path);
         printed(run_command(&mut command, b""), &sheet, 0);
     }
     // By the search path.
-    let mut command = house.plan_by("bash");
+    let mut command = house.command_by("bash");
     command.args(["-c", "PATH=elsewhere:$PATH; plan a/b"]);
     printed(run_command(&mut command, b""), &sheet, 0);
     assert!(house.calls().is_empty());
@@ -200,12 +196,14 @@ fn from_any_folder_and_by_links() {
 
 #[test]
 fn cdpath_does_not_matter() {
-    let house = House::new();
+    let house = house();
     let sheet = house.listing("records");
-    house.0.put_folder("other/records");
-    house.0.put_folder("other/target");
-    let mut command = house.plan_by("./plan");
-    command.env("CDPATH", house.0.at("other")).arg("records");
+    house.folder.put_folder("other/records");
+    house.folder.put_folder("other/target");
+    let mut command = house.command_by("./plan");
+    command
+        .env("CDPATH", house.folder.at("other"))
+        .arg("records");
     printed(run_command(&mut command, b""), &sheet, 0);
     fs::remove_file(house.built("sheet")).unwrap();
     told(run_command(&mut command, b""), "there is no", 3);
@@ -214,29 +212,33 @@ fn cdpath_does_not_matter() {
 
 #[test]
 fn a_temporary_folder_by_a_relative_path() {
-    let house = House::new();
+    let house = house();
     let sheet = house.listing("records");
-    house.0.put("text", text_of((5, 2), &LISTING).as_bytes());
+    house
+        .folder
+        .put("text", text_of((5, 2), &LISTING).as_bytes());
     for path in ["records", "text"] {
         printed(
-            run_command(house.plan().env("TMPDIR", "room").arg(path), b""),
+            run_command(house.command().env("TMPDIR", "room").arg(path), b""),
             &sheet,
             0,
         );
     }
-    let ran = run_command(house.plan().env("TMPDIR", "nowhere").arg("records"), b"");
+    let ran = run_command(house.command().env("TMPDIR", "nowhere").arg("records"), b"");
     told(ran, "no room for a temporary file", 3);
 }
 
 #[test]
 fn output_that_cannot_be_written() {
-    let house = House::new();
+    let house = house();
     house.listing("records");
-    house.0.put("text", text_of((5, 2), &LISTING).as_bytes());
-    house.0.put("wrong", b"5\n");
+    house
+        .folder
+        .put("text", text_of((5, 2), &LISTING).as_bytes());
+    house.folder.put("wrong", b"5\n");
     for path in ["records", "text", "wrong", "--help"] {
         for redirection in [">/dev/full", ">&-"] {
-            let mut command = house.plan_by("bash");
+            let mut command = house.command_by("bash");
             command.args(["-c", &format!("./plan \"$1\" {redirection}"), "bash", path]);
             told(run_command(&mut command, b""), "could not be written", 3);
         }
@@ -245,11 +247,13 @@ fn output_that_cannot_be_written() {
 
 #[test]
 fn a_closed_pipe() {
-    let house = House::new();
+    let house = house();
     // A sheet that no pipe holds.
     let list: Vec<Circuit> = (0..2048).map(|i| (u32::MAX - i, 1, 512)).collect();
-    house.0.put("text", text_of((512, 1), &list).as_bytes());
-    let mut command = house.plan();
+    house
+        .folder
+        .put("text", text_of((512, 1), &list).as_bytes());
+    let mut command = house.command();
     command
         .arg("text")
         .stdout(Stdio::piped())
@@ -267,7 +271,7 @@ fn a_closed_pipe() {
 
 #[test]
 fn a_sheet_that_is_not_whole() {
-    let house = House::new();
+    let house = house();
     house.listing("records");
     for text in [
         "",
@@ -291,8 +295,8 @@ fn a_sheet_that_is_not_whole() {
 
 #[test]
 fn a_text_whose_answer_is_not_whole() {
-    let house = House::new();
-    house.0.put("text", b"1 1\n0 1 1\n");
+    let house = house();
+    house.folder.put("text", b"1 1\n0 1 1\n");
     for text in [
         "",
         "T 0 0 0",
@@ -308,22 +312,22 @@ fn a_text_whose_answer_is_not_whole() {
 
 #[test]
 fn a_text_that_could_not_be_read() {
-    let house = House::new();
-    house.0.put("text", b"1 1\n");
+    let house = house();
+    house.folder.put("text", b"1 1\n");
     house.script("target/bin/typed", &format!("printf '{UNREAD_INPUT}'"));
     told(house.run(&["text"]), "the file text could not be read", 3);
 }
 
 #[test]
 fn a_temporary_folder_that_is_full() {
-    let house = House::new();
+    let house = house();
     // The longest sheet, where no file may have more than 64 KB.
     let list: Vec<Circuit> = (0..2048).map(|i| (u32::MAX - i, 1, 512)).collect();
-    house.0.put_folder("records");
-    house.0.put("records/line.rec", &[0, 2, 1, 0]);
-    house.0.put("records/circuits.rec", &encode(&list));
+    house.folder.put_folder("records");
+    house.folder.put("records/line.rec", &[0, 2, 1, 0]);
+    house.folder.put("records/circuits.rec", &encode(&list));
     for trap in ["", "trap '' XFSZ;"] {
-        let mut command = house.plan_by("bash");
+        let mut command = house.command_by("bash");
         command.args(["-c", &format!("{trap} ulimit -f 64; ./plan records")]);
         told(run_command(&mut command, b""), "not whole", 3);
     }
@@ -331,9 +335,9 @@ fn a_temporary_folder_that_is_full() {
 
 #[test]
 fn what_is_missing_is_built() {
-    let house = House::new();
+    let house = house();
     let sheet = house.listing("records");
-    fs::remove_dir_all(house.0.at("target")).unwrap();
+    fs::remove_dir_all(house.folder.at("target")).unwrap();
     house.build_by_copy("");
     let ran = house.run(&["records"]);
     assert_same(&ran.out, &sheet);
@@ -345,7 +349,7 @@ fn what_is_missing_is_built() {
 
 #[test]
 fn what_is_out_of_date_is_built_once() {
-    let house = House::new();
+    let house = house();
     let sheet = house.listing("records");
     for source in [
         "crates.txt",
@@ -370,7 +374,7 @@ fn what_is_out_of_date_is_built_once() {
 
 #[test]
 fn an_edit_during_a_build_is_built_next() {
-    let house = House::new();
+    let house = house();
     house.listing("records");
     fs::remove_file(house.built("sheet")).unwrap();
     house.build_by_copy(
@@ -384,9 +388,9 @@ fn an_edit_during_a_build_is_built_next() {
 
 #[test]
 fn a_text_has_its_programs_built() {
-    let house = House::new();
-    house.0.put("text", b"1 1\n");
-    fs::remove_dir_all(house.0.at("target")).unwrap();
+    let house = house();
+    house.folder.put("text", b"1 1\n");
+    fs::remove_dir_all(house.folder.at("target")).unwrap();
     house.build_by_copy("");
     let ran = house.run(&["text"]);
     assert_eq!((ran.out.as_str(), ran.status), ("T 0 0 0\n", Some(0)));
@@ -395,9 +399,9 @@ fn a_text_has_its_programs_built() {
 
 #[test]
 fn a_build_that_fails() {
-    let house = House::new();
+    let house = house();
     house.listing("records");
-    house.0.put("text", b"1 1\n");
+    house.folder.put("text", b"1 1\n");
     house.age("crates.txt", 1);
     for name in PROGRAMS {
         house.age(&format!("target/bin/{name}"), 500);
@@ -408,8 +412,8 @@ fn a_build_that_fails() {
         assert!(ran.err.contains("sheet NOT PROVED\n"), "{ran:?}");
         told(ran, "could not be built", 3);
     }
-    fs::remove_file(house.0.at("tools/rt")).unwrap();
-    let mut command = house.plan_by("/bin/bash");
+    fs::remove_file(house.folder.at("tools/rt")).unwrap();
+    let mut command = house.command_by("/bin/bash");
     command
         .env("PATH", "/usr/bin:/bin")
         .args(["./plan", "records"]);
@@ -418,22 +422,22 @@ fn a_build_that_fails() {
 
 #[test]
 fn what_may_not_be_read_is_told() {
-    let house = House::new();
+    let house = house();
     house.listing("records");
-    house.0.put("text", b"1 1\n");
-    house.0.allow("records", 0o666);
-    house.0.allow("text", 0);
+    house.folder.put("text", b"1 1\n");
+    house.folder.allow("records", 0o666);
+    house.folder.allow("text", 0);
     for (path, words) in [
         ("records", "the folder records cannot be entered"),
         ("text", "the file text cannot be read"),
     ] {
-        let mut command = house.plan();
+        let mut command = house.command();
         as_nobody(&mut command);
         told(run_command(command.arg(path), b""), words, 2);
     }
-    house.0.allow("records", 0o777);
-    house.0.allow("records/circuits.rec", 0);
-    let mut command = house.plan();
+    house.folder.allow("records", 0o777);
+    house.folder.allow("records/circuits.rec", 0);
+    let mut command = house.command();
     as_nobody(&mut command);
     printed(run_command(command.arg("records"), b""), "R 11 0 0\n", 1);
 }

@@ -1,0 +1,14 @@
+pub mod Seeking
+pub mod Faults
+pub mod First
+pub mod Yes
+pub mod Reading
+pub mod RulesRead
+pub mod Adding
+pub mod Passing
+pub mod Tabled
+pub mod Judging
+pub mod Answers
+pub mod Planned
+pub mod LayerIdle
+pub mod Bench

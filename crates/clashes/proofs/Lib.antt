@@ -1,0 +1,4 @@
+pub mod SweepLaws
+pub mod FibreLaws
+pub mod Halving
+pub mod Cases

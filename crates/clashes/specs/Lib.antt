@@ -1,0 +1,2 @@
+pub mod Clashes
+pub mod inner
