@@ -1,0 +1,5 @@
+pub mod Adding
+pub mod Added
+pub mod Grown
+pub mod AddDemands
+pub mod Bench

@@ -1,0 +1,5 @@
+pub mod Copying
+pub mod Scattering
+pub mod Apart
+pub mod Choosing
+pub mod Pinned

@@ -1,0 +1,8 @@
+pub mod PlaceLaws
+pub mod RiderLaws
+pub mod Partial
+pub mod RisingLaws
+pub mod Parts
+pub mod TwoFiles
+pub mod TurnLaws
+pub mod Bench

@@ -1,0 +1,4 @@
+pub mod Places
+pub mod Turns
+pub mod Parts
+pub mod Bench

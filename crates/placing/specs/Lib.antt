@@ -1,0 +1,3 @@
+pub mod Riding
+pub mod inner
+pub mod Turns
