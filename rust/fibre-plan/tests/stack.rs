@@ -143,7 +143,7 @@ fn most(
 }
 
 #[test]
-fn a_plan_uses_less_than_32_kb_of_stack() {
+fn a_plan_uses_less_than_48_kb_of_stack() {
     let most = most(make, |_| (), |call| call.planned);
     println!("fibre_plan uses at most {most} bytes of stack");
     assert!(most < PLAN, "{most} bytes of stack");
