@@ -1,8 +1,9 @@
-/* A fibre planner that is proved: every circuit of a line gets a fibre and a wavelength. And a check of any plan, whoever made it.
+/* A fibre planner that is proved: every circuit of a line gets a fibre and a wavelength. Circuits can be added to a plan, and none is
+ * moved. And a check of any plan, whoever made it.
  *
  * Build the archive with `rt staticlib exports`, and link target/staticlib/libexports.a (x86-64 Linux).
- * The functions keep nothing between calls and allocate nothing; fibre_plan uses less than 48 KB of stack, fibre_check less than
- * 64 KB. Several threads may call them at the same time, each with areas of its own to be written.
+ * The functions keep nothing between calls and allocate nothing; fibre_plan uses less than 48 KB of stack, fibre_check less than 64 KB,
+ * fibre_add less than 96 KB. Several threads may call them at the same time, each with areas of its own to be written.
  *
  * All records have 8 bytes; all numbers are unsigned and stand low byte first.
  *
@@ -27,8 +28,9 @@ extern "C" {
 
 /* The largest values that are accepted. */
 #define FIBRE_PLAN_MAX_LINKS 512
-#define FIBRE_PLAN_MAX_CIRCUITS 2048
-#define FIBRE_PLAN_MAX_FIBRES 4096 /* of a plan that is checked */
+#define FIBRE_PLAN_MAX_CIRCUITS 2048   /* old and new ones together */
+#define FIBRE_PLAN_MAX_FIBRES 4096     /* of a plan that is checked */
+#define FIBRE_PLAN_MAX_OLD_FIBRES 2048 /* of a plan that circuits are added to */
 
 /* The grids, and the most wavelengths of each. */
 #define FIBRE_PLAN_GRID_100_GHZ 1
@@ -41,14 +43,15 @@ extern "C" {
 #define FIBRE_PLAN_END_FIRST_PAST_LAST 2 /* the first link is past the last */
 #define FIBRE_PLAN_END_LAST_PAST_LINE 3  /* the last link is past the line */
 
-/* The bytes that each area must have, for so many circuits and links. There is at most one fibre a circuit. */
+/* The bytes that each area must have, for so many circuits and links. There is at most one fibre a circuit. Where circuits are added,
+ * the fibre list asks for FIBRE_PLAN_FIBRE_BYTES(old fibres + new circuits), the others count the circuits of both files. */
 #define FIBRE_PLAN_FIBRE_BYTES(circuits) (8 * (size_t)(circuits))
 #define FIBRE_PLAN_ASSIGNMENT_BYTES(circuits) (8 * (size_t)(circuits))
 #define FIBRE_PLAN_WORK_BYTES(links, circuits) (4 * (size_t)(links) + 4 * (size_t)(circuits))
 
-/* What fibre_plan answers. Where it refuses, the last three are 0.
+/* What fibre_plan and fibre_add answer. Where they refuse, the last three are 0. For fibre_add see there.
  *
- * The tests run in this order, each over the whole input; the first refusal that applies is given,
+ * The tests of fibre_plan run in this order, each over the whole input; the first refusal that applies is given,
  * and none otherwise. Places are circuit records, counted from 1. The end is one of FIBRE_PLAN_END_..:
  * the first of the three, in their order, that is wrong in the record of the place.
  *
@@ -70,9 +73,9 @@ typedef struct fibre_plan_answer {
     uint32_t refusal; /* 0: planned */
     uint32_t place;
     uint32_t end;     /* 0, but for refusal 6 */
-    size_t fibres;    /* how many fibre records were written, at most one a circuit */
+    size_t fibres;    /* how many fibres the plan has; fibre_plan writes at most one a circuit */
     size_t total;     /* the sum over the fibres of the links that they span */
-    size_t floor;     /* a length that no valid plan can be shorter than; total is at most twice that */
+    size_t floor;     /* a length that no valid plan can be shorter than; for fibre_plan total is at most twice that */
 } fibre_plan_answer;
 
 /* Plans the circuits of a line. No fibre is dark, not even on one of its links: each link of a fibre is
@@ -98,6 +101,60 @@ fibre_plan_answer fibre_plan(size_t links, size_t wavelengths, size_t grid,
                              uint8_t *fibres, size_t fibres_len,
                              uint8_t *assignments, size_t assignments_len,
                              uint8_t *work, size_t work_len);
+
+/* Adds circuits to a plan, ours or another's, and moves none. The new circuits take their turns by rising number: each gets the
+ * lowest-numbered old fibre that spans it and has a wavelength free there, and the lowest such wavelength. Those that fit nowhere are
+ * planned together, as fibre_plan plans them; their fibres follow the old ones, numbered on from them, with layers counted from 1.
+ *
+ *   links, wavelengths   of the line, and of each fibre; any value is taken, also others than the plan was made with
+ *   grid                 FIBRE_PLAN_GRID_100_GHZ or FIBRE_PLAN_GRID_50_GHZ; any value is taken
+ *   circuits             circuits_len bytes of circuit records, the old ones, in the order of their assignments; only read
+ *   added                added_len bytes of circuit records, the new ones, in any order; only read
+ *   old_fibres           how many old records fibres begins with; any value is taken
+ *   old_assignments      how many old records assignments begins with; any value is taken
+ *   fibres               fibres_len bytes; the fibre records that are added are written behind the old ones
+ *   assignments          assignments_len bytes; an assignment for each new circuit is written behind the old ones, in the order of
+ *                        the new circuits
+ *   work                 work_len bytes to work in; after an addition its first FIBRE_PLAN_WORK_BYTES(links, circuits of both
+ *                        files) bytes are zero
+ *
+ * The three numbers are those of the whole plan, and the floor is that of the circuits of both files. No old record changes a byte;
+ * what stood behind the old records and in work does not matter. Every byte behind what is named here is left as it was, and a refusal
+ * changes no byte. After k additions to a plan of fibre_plan there are over each link at most 2k fibres more than twice as many as
+ * its circuits need, with the least number of wavelengths that was given.
+ *
+ * The tests run in this order, each over the whole input; the first refusal that applies is given, and none otherwise. Places are
+ * circuit records, counted from 1; those of the new file count on from those of the old one. The end is as in fibre_plan_answer.
+ *
+ *   refusal  given when                                                          place                        end
+ *      0     added                                                               0                            0
+ *      1     the bytes of the old file, or of the new, are not a multiple of 8   0                            0
+ *      2     there are more than 2,048 circuits in both files together           0                            0
+ *      3     links is not 1 to 512                                               0                            0
+ *     12     grid is neither 1 nor 2                                             0                            0
+ *      4     wavelengths is not 1 to 40 (grid 1) or 1 to 80 (grid 2)             0                            0
+ *      5     a circuit number is 0, in the old file or the new                   the first such record        0
+ *      6     a first link is 0, or past the last, or the last past links,        the first such record        1, 2 or 3
+ *            in the old file or the new
+ *      7     a circuit number stands twice in the old file, or else in the new   the first that repeats       0
+ *      8     fibres has fewer than 8 bytes for each of old_fibres and for        0                            0
+ *            each new circuit
+ *      9     assignments has fewer than 8 bytes for each of old_assignments      0                            0
+ *            and for each new circuit
+ *     10     work has fewer than 4 bytes a link and 4 bytes a circuit of both    0                            0
+ *     13     the old plan breaks a rule of fibre_check on this line, or has      0                            0
+ *            more than 2,048 fibres
+ *     14     the old file has the number of a new circuit                        the first such new record    0
+ *
+ * The caller sees to it that each pointer is to so many bytes (and is not NULL, not even where the length is 0), that the five areas
+ * do not overlap, and that nobody else uses the three that are written, or writes to the circuits, during the call. */
+fibre_plan_answer fibre_add(size_t links, size_t wavelengths, size_t grid,
+                            const uint8_t *circuits, size_t circuits_len,
+                            const uint8_t *added, size_t added_len,
+                            size_t old_fibres, size_t old_assignments,
+                            uint8_t *fibres, size_t fibres_len,
+                            uint8_t *assignments, size_t assignments_len,
+                            uint8_t *work, size_t work_len);
 
 /* The rules of a valid plan, by how they are broken. */
 #define FIBRE_PLAN_RULE_FIBRE_NUMBER 1
@@ -151,12 +208,12 @@ typedef struct fibre_check_answer {
 } fibre_check_answer;
 
 /* Checks a plan of the circuits of a line, whoever made it: yes exactly if it breaks no rule. Every plan that fibre_plan
- * writes gets a yes, with its total and its floor.
+ * or fibre_add writes gets a yes, with its total and its floor.
  *
  *   links, wavelengths   of the line, and of each fibre; any value is taken
  *   grid                 FIBRE_PLAN_GRID_100_GHZ or FIBRE_PLAN_GRID_50_GHZ; any value is taken
  *   circuits             circuits_len bytes of circuit records, in any order
- *   fibres               fibres_len bytes of fibre records, for a plan of fibre_plan 8 bytes for each of its fibres; their
+ *   fibres               fibres_len bytes of fibre records, for a plan of fibre_plan or fibre_add 8 bytes for each of its fibres; their
  *                        layers do not matter
  *   assignments          assignments_len bytes of assignment records, in the order of the circuits
  *

@@ -1,4 +1,4 @@
-# What `plan` and `check` share. Each names itself in `script`, the folder of the repository in `top`, and has a function
+# What `plan`, `check` and `add` share. Each names itself in `script`, the folder of the repository in `top`, and has a function
 # `use` that prints its use.
 set -euo pipefail
 export LC_ALL=C

@@ -31,5 +31,5 @@ pub record Within (k w : ℕ) (cs : List Circuit) (p : Plan) : Type 0 where
   pub total-few : (n : ℕ) → FibresOn n (p .fibres) → total (p .fibres) ≤ 2 * floor n w cs + n * (2 * k)
   -- at most one fibre for each circuit
   pub few-fibres : length (p .fibres) ≤ length cs
-  -- the plan is valid for the w that was given last
+  -- the plan is valid for some w that is at least the least
   pub valid : (v : ℕ) × (w ≤ v) × Valid v cs p

@@ -14,7 +14,7 @@ use Rattle.refusals.proofs.First.{record-first, record-none}
 use Rattle.refusals.proofs.FirstLaws.{first-hit, first-end}
 use Rattle.checker.specs.Rules.{Rule, Breach, lowestBroken, faulty, breachAt, firstFault}
 use Rattle.checker.specs.Sound.{ruleAt, NoneBroken, NoneFaulty, FirstFault}
-use Rattle.checker.specs.inner.Runs.{faultOf}
+use Rattle.checker.specs.Checked.{faultOf}
 use Rattle.checker.specs.declared.rules.Fault.the-variants.{Nothing, Broken}
 
 -- RULES BY RISING NUMBER, all above x

@@ -21,8 +21,7 @@ use Rattle.refusals.proofs.First.{verdict-passed}
 use Rattle.rows.specs.Accepted.{Accepted}
 use Rattle.planner.proofs.Accepting.{accepted}
 use Rattle.checker.specs.Rules.{Breach, firstFault, firstOf, fibreRules, assignmentRules, firstBroken}
-use Rattle.checker.specs.Checked.{fibresIn, assignmentsIn, fibresOf, assignmentsOf, checkTable, judged, findingBy, lengthIn, found, answerBy, checked}
-use Rattle.checker.specs.inner.Runs.{faultOf}
+use Rattle.checker.specs.Checked.{fibresIn, assignmentsIn, faultOf, fibresOf, assignmentsOf, checkTable, judged, findingBy, lengthIn, found, answerBy, checked}
 use Rattle.checker.specs.declared.rules.Fault.{Fault}
 use Rattle.checker.specs.declared.rules.Fault.the-variants.{Nothing, Broken}
 use Rattle.checker.specs.declared.Finding.{Finding}
@@ -31,12 +30,12 @@ use Rattle.checker.proofs.Passing.{of-circuits, fibres-whole, assigns-w
 use Rattle.checker.proofs.Reading.{length-fibresIn, length-assignmentsIn}
 
 -- THE RULES. A run through the places that came to nothing
-silent : (o : Option Breach) (t : Fault) → t ≡ faultOf o → t ≡ Nothing → o ≡ none
+pub silent : (o : Option Breach) (t : Fault) → t ≡ faultOf o → t ≡ Nothing → o ≡ none
 silent none t e h = refl
 silent (some b) t e h = absurd (let z : _≡_ {A = ℕ} 0 1 = cc in omega arith)
 
 -- and one that found a breach
-loud : (o : Option Breach) (t : Fault) (rule place : ℕ) → t ≡ faultOf o → t ≡ Broken rule place → o ≡ some (record { rule = rule; place = place })
+pub loud : (o : Option Breach) (t : Fault) (rule place : ℕ) → t ≡ faultOf o → t ≡ Broken rule place → o ≡ some (record { rule = rule; place = place })
 loud none t rule place e h = absurd (let z : _≡_ {A = ℕ} 0 1 = cc in omega arith)
 loud (some b) t rule place e h =
     let z : Broken (b .rule) (b .place) ≡ Broken rule place = sym e ∙ h in
@@ -44,16 +43,10 @@ loud (some b) t rule place e h =
     let q : b .place ≡ place = cc in
     ap some (λ i. record { rule = p i; place = q i })
 
--- what is found, from the first broken rule
-found-by : (line : Line) (cs : List Circuit) (fs : List FibreRecord) (gs : List AssignmentRecord) (o : Option Breach) → firstBroken line cs fs gs ≡ o
-    → findingBy o (lengthIn fs) (floor (line .links) (line .wavelengths) cs) ≡ found line cs fs gs
-unfolding found
-found-by line cs fs gs o e = sym (ap (λ (x : Option Breach). findingBy x (lengthIn fs) (floor (line .links) (line .wavelengths) cs)) e)
-
 module _ (line : Line) (m k l : ℕ) (s fibres assigns : List ℕ) where
-  -- what is to be found
-  abbrev asked : Finding
-  asked = found line (circuitsIn m s) (fibresIn k fibres) (assignmentsIn l assigns)
+  -- the first broken rule
+  abbrev firstIn : Option Breach
+  firstIn = firstBroken line (circuitsIn m s) (fibresIn k fibres) (assignmentsIn l assigns)
 
   -- the run through the fibres
   abbrev fibreRun : Option Breach
@@ -68,41 +61,51 @@ module _ (line : Line) (m k l : ℕ) (s fibres assigns : List ℕ) where
   all-fibres o e = ap (firstFault (fibreRules (line .links) (fibresIn k fibres))) (length-fibresIn k fibres) ∙ e
 
   -- a fibre is faulty
-  pub fibre-found : (t : Fault) (rule place : ℕ) → t ≡ faultOf fibreRun → t ≡ Broken rule place → No rule place ≡ asked
+  pub fibre-broken : (t : Fault) (rule place : ℕ) → t ≡ faultOf fibreRun → t ≡ Broken rule place → t ≡ faultOf firstIn
   unfolding firstBroken
-  fibre-found t rule place e h = found-by line _ _ _ (some (record { rule = rule; place = place })) (rw (all-fibres _ (loud _ t rule place e h)))
+  fibre-broken t rule place e h =
+      let z : firstIn ≡ some (record { rule = rule; place = place }) = rw (all-fibres _ (loud _ t rule place e h)) in
+      h ∙ sym (ap faultOf z)
 
   -- no fibre is, and the count is wrong
-  pub count-found : (t : Fault) → t ≡ faultOf fibreRun → t ≡ Nothing → l ≢ m → No 3 0 ≡ asked
+  pub count-broken : (t : Fault) → t ≡ faultOf fibreRun → t ≡ Nothing → l ≢ m → Broken 3 0 ≡ faultOf firstIn
   unfolding firstBroken
-  count-found t e h d =
+  count-broken t e h d =
       let z : length (assignmentsIn l assigns) ≢ length (circuitsIn m s) = λ q. d (sym (length-assignmentsIn l assigns) ∙ q ∙ length-circuitsIn m s) in
-      found-by line _ _ _ (some (record { rule = 3; place = 0 })) (rw (all-fibres _ (silent _ t e h), ne-eqb (length (assignmentsIn l assigns)) (length (circuitsIn m s)) z))
+      let r : firstIn ≡ some (record { rule = 3; place = 0 }) =
+      rw (all-fibres _ (silent _ t e h), ne-eqb (length (assignmentsIn l assigns)) (length (circuitsIn m s)) z) in
+      sym (ap faultOf r)
 
   -- no fibre is, and the count is right: what the run through the assignments tells
-  assigns-tell : (t : Fault) → t ≡ faultOf fibreRun → t ≡ Nothing → l ≡ m → (o : Option Breach) → assignRun ≡ o
-      → firstBroken line (circuitsIn m s) (fibresIn k fibres) (assignmentsIn l assigns) ≡ o
+  pub assign-tells : (t u : Fault) → t ≡ faultOf fibreRun → t ≡ Nothing → l ≡ m → u ≡ faultOf assignRun → u ≡ faultOf firstIn
   unfolding firstBroken
-  assigns-tell t e h d o r =
+  assign-tells t u e h d f =
       let z : length (assignmentsIn m assigns) ≡ length (circuitsIn m s) = length-assignmentsIn m assigns ∙ sym (length-circuitsIn m s) in
-      let q : firstFault (assignmentRules (line .wavelengths) (circuitsIn m s) (fibresIn k fibres) (assignmentsIn m assigns)) (length (assignmentsIn m assigns)) ≡ o =
-      ap (firstFault (assignmentRules (line .wavelengths) (circuitsIn m s) (fibresIn k fibres) (assignmentsIn m assigns))) (length-assignmentsIn m assigns) ∙ r in
+      let q : firstFault (assignmentRules (line .wavelengths) (circuitsIn m s) (fibresIn k fibres) (assignmentsIn m assigns)) (length (assignmentsIn m assigns)) ≡ assignRun =
+      ap (firstFault (assignmentRules (line .wavelengths) (circuitsIn m s) (fibresIn k fibres) (assignmentsIn m assigns))) (length-assignmentsIn m assigns) in
+      let r : firstIn ≡ assignRun =
       ap (λ (x : ℕ). firstBroken line (circuitsIn m s) (fibresIn k fibres) (assignmentsIn x assigns)) d
-      ∙ rw (all-fibres _ (silent _ t e h), eq-eqb (length (assignmentsIn m assigns)) (length (circuitsIn m s)) z, q) (whole o)
+      ∙ rw (all-fibres _ (silent _ t e h), eq-eqb (length (assignmentsIn m assigns)) (length (circuitsIn m s)) z, q) (whole assignRun) in
+      f ∙ sym (ap faultOf r)
     where
       whole : (o : Option Breach) → firstOf (o ∷ []) ≡ o
       whole none = refl
       whole (some b) = refl
 
-  -- an assignment is faulty
-  pub assign-found : (t u : Fault) (rule place : ℕ) → t ≡ faultOf fibreRun → t ≡ Nothing → l ≡ m → u ≡ faultOf assignRun → u ≡ Broken rule place → No rule place ≡ asked
-  assign-found t u rule place e h d f g =
-      found-by line _ _ _ (some (record { rule = rule; place = place })) (assigns-tell t e h d _ (loud _ u rule place f g))
+-- WHAT IS FOUND
+module _ (line : Line) (cs : List Circuit) (fs : List FibreRecord) (gs : List AssignmentRecord) (t : Fault) (told : t ≡ faultOf (firstBroken line cs fs gs)) where
+  -- from the first broken rule
+  found-by : (o : Option Breach) → firstBroken line cs fs gs ≡ o → findingBy o (lengthIn fs) (floor (line .links) (line .wavelengths) cs) ≡ found line cs fs gs
+  unfolding found
+  found-by o e = sym (ap (λ (x : Option Breach). findingBy x (lengthIn fs) (floor (line .links) (line .wavelengths) cs)) e)
+
+  -- a rule is broken
+  pub no-found : (rule place : ℕ) → t ≡ Broken rule place → No rule place ≡ found line cs fs gs
+  no-found rule place h = found-by (some (record { rule = rule; place = place })) (loud _ t rule place told h)
 
   -- none is
-  pub yes-found : (t u : Fault) (long its-floor : ℕ) → t ≡ faultOf fibreRun → t ≡ Nothing → l ≡ m → u ≡ faultOf assignRun → u ≡ Nothing
-      → long ≡ lengthIn (fibresIn k fibres) → its-floor ≡ floor (line .links) (line .wavelengths) (circuitsIn m s) → Yes long its-floor ≡ asked
-  yes-found t u long its-floor e h d f g p q = ap₂ Yes p q ∙ found-by line _ _ _ none (assigns-tell t e h d _ (silent _ u f g))
+  pub yes-found : t ≡ Nothing → (long its-floor : ℕ) → long ≡ lengthIn fs → its-floor ≡ floor (line .links) (line .wavelengths) cs → Yes long its-floor ≡ found line cs fs gs
+  yes-found h long its-floor p q = ap₂ Yes p q ∙ found-by none (silent _ t told h)
 
 -- THE TESTS
 module _ (line : Line) (s fibres assigns : List ℕ) (t : Verdict) (told : t ≡ verdict (checkTable line s (length fibres) (length assigns)) (length s / 8)) where

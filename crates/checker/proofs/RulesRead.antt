@@ -21,8 +21,8 @@ use Rattle.rows.specs.Accepted.{Accepted}
 use Rattle.clashes.specs.Clashes.{clash, clashesIn, waveIn, Placed}
 use Rattle.checker.specs.Rules.{Rule, rule8, lowestBroken, faulty, firstFault, rulesOfAssignment, noAssignmentRecord, fibreAt, assignmentRules}
 use Rattle.checker.specs.Sound.{NoneBroken}
-use Rattle.checker.specs.Checked.{fibresIn, assignmentsIn}
-use Rattle.checker.specs.inner.Runs.{faultOf, ownRulesIn}
+use Rattle.checker.specs.Checked.{fibresIn, assignmentsIn, faultOf}
+use Rattle.checker.specs.inner.Runs.{ownRulesIn}
 use Rattle.checker.specs.declared.rules.Fault.the-variants.{Nothing, Broken}
 use Rattle.checker.proofs.Faults.{Numbered, SoundTo, rising-numbered, lowest-here, lowest-none, lowest-past, lowest-then, lowest-else, is-sound, is-faulty, broken-at, nothing-all}
 use Rattle.checker.proofs.Reading.{length-fibresIn, assignmentsIn-at}

@@ -19,6 +19,8 @@ use Rattle.refusals.specs.Table.{Row, noEnd, wherever, circuitRows, verdict}
 use Rattle.refusals.specs.declared.Verdict.{Verdict}
 use Rattle.register.specs.Plans.{spanOf}
 use Rattle.checker.specs.Rules.{Breach, firstBroken}
+use Rattle.checker.specs.declared.rules.Fault.{Fault}
+use Rattle.checker.specs.declared.rules.Fault.the-variants.{Nothing, Broken}
 use Rattle.checker.specs.declared.Finding.{Finding}
 use Rattle.checker.specs.declared.Finding.the-variants.{Yes, No, Refused}
 
@@ -69,6 +71,11 @@ checkTable line s fibres assigns = circuitRows line s ++ (listRows fibres assign
 -- the verdict of the tests: the first refusal that applies, or else how many circuits there are
 unfoldable pub judged : Line → List ℕ → List ℕ → List ℕ → Verdict
 judged line s fibres assigns = verdict (checkTable line s (length fibres) (length assigns)) (length s / 8)
+
+-- THE RULES, run through: what is told of the first that is broken
+abbrev pub faultOf : Option Breach → Fault
+faultOf none = Nothing
+faultOf (some b) = Broken (b .rule) (b .place)
 
 -- THE ANSWER. Yes, with length and floor, where no rule is broken, and else no, with the first that is and its place
 abbrev pub findingBy : Option Breach → ℕ → ℕ → Finding

@@ -2,7 +2,7 @@
 -- Circuits, fibre records and assignment records are known by their places, counted from 0; a breach tells its place counted from 1.
 -- Assumes nothing.
 use Prim.Native.Nat.{ℕ, suc, _-_}
-use mathlib.Core.Bool.{Bool, not, _&&_, _||_, cond}
+use mathlib.Core.Bool.{Bool, true, false, not, _&&_, _||_, cond}
 use mathlib.Core.List.{List, [], _∷_, _++_, map}
 use mathlib.Core.Option.{Option, none, some}
 use lib.ListN.{length, getD}
@@ -132,6 +132,11 @@ firstBroken line cs fs gs =
     countFault cs gs ∷
     firstFault (assignmentRules (line .wavelengths) cs fs gs) (length gs) ∷
     [])
+
+-- there is a breach
+abbrev pub isBroken : Option Breach → Bool
+isBroken none = false
+isBroken (some b) = true
 
 -- the plan that two lists of records hold
 abbrev pub planHeld : List FibreRecord → List AssignmentRecord → Plan

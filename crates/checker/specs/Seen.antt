@@ -21,11 +21,11 @@ use Rattle.checker.specs.Sound.{Sound, FirstBreach}
 use Rattle.checker.specs.Checked.{fibresOf, assignmentsOf, checkTable, yes, no, refused, says}
 use Rattle.checker.specs.declared.Finding.{Finding}
 
--- the fibre records that `plan` wrote: as many as it counts, at the start of its fibre list
+-- the fibre records that `plan` or an addition wrote: as many as it counts, at the start of its fibre list
 abbrev pub writtenFibres : Counts → Areas → List ℕ
 writtenFibres counts after = take (8 * counts .fibres) (after .fibres)
 
--- the assignment records that it wrote: as many bytes as the circuit bytes s, at the start of its assignment list
+-- the assignment records that `plan` or an addition wrote: as many bytes as the circuit bytes s, at the start of its assignment list
 abbrev pub writtenAssignments : List ℕ → Areas → List ℕ
 writtenAssignments s after = take (length s) (after .assigns)
 

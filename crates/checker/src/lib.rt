@@ -1,7 +1,7 @@
 // The check of a plan in records: the tests, then the eight rules.
 mod admit;
-mod measures;
-mod rules;
+pub mod measures;
+pub mod rules;
 
 use records::Line;
 use refusals::Verdict;
@@ -34,20 +34,13 @@ fn examine(
     requires { ⌜ (8 * k ≤ length (now fibres)) × (k ≤ 4096) × (8 * l ≤ length (now assigns)) ⌝ }
     ensures { λ r. ⌜ r ≡ found line (circuitsIn m (now (circuits .entry))) (fibresIn k (now (fibres .entry))) (assignmentsIn l (now (assigns .entry))) ⌝ }
 {
-    let of_fibres = rules::fibre_fault(fibres, k, line.links);
-    if let Fault::Broken { rule, place } = of_fibres {
-        return Finding::No { rule, place };
-    }
-    if l != m {
-        return Finding::No { rule: 3, place: 0 };
-    }
-    let of_assigns = rules::assignment_fault(line, circuits, fibres, assigns, m, k);
-    if let Fault::Broken { rule, place } = of_assigns {
-        return Finding::No { rule, place };
-    }
-    Finding::Yes {
-        length: measures::length_of(fibres, k),
-        floor: measures::floor_of(circuits, line.links, line.wavelengths, m),
+    let fault = rules::first_broken(line, circuits, fibres, assigns, m, k, l);
+    match fault {
+        Fault::Broken { rule, place } => Finding::No { rule, place },
+        Fault::Nothing => Finding::Yes {
+            length: measures::length_of(fibres, k),
+            floor: measures::floor_of(circuits, line.links, line.wavelengths, m),
+        },
     }
 }
 

@@ -6,9 +6,9 @@ ghost use lib.ListN.{length};
 ghost use Rattle.basics.specs.Tools.{seek};
 ghost use Rattle.records.specs.Records.{circuitsIn};
 ghost use Rattle.rows.specs.Accepted.{Accepted};
-ghost use Rattle.checker.specs.Rules.{rulesOfFibre, rule6, rule7, lowestBroken, faulty, firstFault, fibreRules, assignmentRules};
-ghost use Rattle.checker.specs.Checked.{fibresIn, assignmentsIn};
-ghost use Rattle.checker.specs.inner.Runs.{faultOf, ownRulesOn, ownRulesIn};
+ghost use Rattle.checker.specs.Rules.{rulesOfFibre, rule6, rule7, lowestBroken, faulty, firstFault, fibreRules, assignmentRules, firstBroken};
+ghost use Rattle.checker.specs.Checked.{fibresIn, assignmentsIn, faultOf};
+ghost use Rattle.checker.specs.inner.Runs.{ownRulesOn, ownRulesIn};
 
 // What a run through the rules comes to: nothing, or the first broken rule and its place.
 pub enum Fault {
@@ -37,7 +37,7 @@ fn fibre_rule(f: records::FibreRecord, i: usize, n: usize) -> u32
 }
 
 // The first faulty one of k fibres, and its lowest rule.
-pub fn fibre_fault(fibres: &[u8], k: usize, n: usize) -> Fault
+fn fibre_fault(fibres: &[u8], k: usize, n: usize) -> Fault
     requires { ⌜ (8 * k ≤ length (now fibres)) × (k ≤ 4096) ⌝ }
     ensures { λ r. ⌜ r ≡ faultOf (firstFault (fibreRules n (fibresIn k (now (fibres .entry)))) k) ⌝ }
 {
@@ -130,7 +130,7 @@ fn first_own(circuits: &[u8], fibres: &[u8], assigns: &[u8], m: usize, k: usize,
 }
 
 // The first faulty one of m assignments, and its lowest rule: a clash counts only before the first that breaks another rule.
-pub fn assignment_fault(
+fn assignment_fault(
     line: records::Line,
     circuits: &[u8],
     fibres: &[u8],
@@ -158,4 +158,28 @@ pub fn assignment_fault(
         };
     }
     Fault::Nothing
+}
+
+// The first broken rule of m circuits that passed the tests, k fibres and l assignments, and its place.
+pub fn first_broken(
+    line: records::Line,
+    circuits: &[u8],
+    fibres: &[u8],
+    assigns: &[u8],
+    m: usize,
+    k: usize,
+    l: usize,
+) -> Fault
+    requires { ⌜ Accepted (line .links) (line .wavelengths) m (now circuits) ⌝ }
+    requires { ⌜ (8 * k ≤ length (now fibres)) × (k ≤ 4096) × (8 * l ≤ length (now assigns)) ⌝ }
+    ensures { λ r. ⌜ r ≡ faultOf (firstBroken line (circuitsIn m (now (circuits .entry))) (fibresIn k (now (fibres .entry))) (assignmentsIn l (now (assigns .entry)))) ⌝ }
+{
+    let of_fibres = fibre_fault(fibres, k, line.links);
+    let Fault::Nothing = of_fibres else {
+        return of_fibres;
+    };
+    if l != m {
+        return Fault::Broken { rule: 3, place: 0 };
+    }
+    assignment_fault(line, circuits, fibres, assigns, m, k)
 }

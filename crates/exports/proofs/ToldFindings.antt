@@ -1,9 +1,8 @@
 -- Nothing is lost in the plain struct of a check: the finding is told from it as it was, so no broken rule and no refusal is taken for a yes. Assumes nothing.
-use Prim.Native.Nat.{ℕ, zero, suc, _<_, _≤_}
+use Prim.Native.Nat.{ℕ, zero, suc, _≤_}
 use mathlib.Core.Path.{_≡_, refl, ap, subst, sym, _∙_}
 use mathlib.Core.Logic.{⊎-elim}
 use mathlib.Core.List.{List, [], _∷_}
-use mathlib.Core.Option.{some}
 use native.Mathlib.Omega.{arith}
 use lib.ListN.{length}
 use Rattle.basics.proofs.Bools.{by-eq}
@@ -12,9 +11,8 @@ use Rattle.records.specs.declared.Circuit.{Circuit}
 use Rattle.records.specs.declared.FibreRecord.{FibreRecord}
 use Rattle.records.specs.declared.AssignmentRecord.{AssignmentRecord}
 use Rattle.records.specs.declared.Line.{Line}
-use Rattle.refusals.specs.Given.{Given, InOrder, rowAt}
+use Rattle.refusals.specs.Given.{Given}
 use Rattle.refusals.specs.Refusals.{Refusal}
-use Rattle.refusals.specs.Table.{Row}
 use Rattle.checker.specs.Checked.{assignmentsOf, checked, checkTable, fibresOf}
 use Rattle.checker.specs.Rules.{Breach, Rule, assignmentRules, fibreRules}
 use Rattle.checker.specs.Seen.{Seen}
@@ -27,26 +25,12 @@ use Rattle.checker.proofs.First.{assignments-rise, fibres-rise}
 use Rattle.checker.proofs.Tabled.{check-in-order}
 use Rattle.exports.specs.declared.check.CheckAnswer.{CheckAnswer}
 use Rattle.exports.specs.CheckExported.{CheckExported, flatFinding, toldFinding}
-
--- the numbers of a table are from 1 on
-abbrev AllNamed : List ℕ → Type 0
-AllNamed [] = Unit {0}
-AllNamed (x ∷ xs) = (1 ≤ x) × AllNamed xs
-
--- so a row that applies gives one from 1 on
-row-named : (xs : List ℕ) (rows : List Row) → InOrder xs rows → AllNamed xs → (i : ℕ) (r : Refusal) → i < length rows → rowAt rows i ≡ some r → 1 ≤ r .number
-row-named [] [] o a i r h e = absurd (omega arith)
-row-named [] (row ∷ rows) o a i r h e = absurd o
-row-named (x ∷ xs) [] o a i r h e = absurd o
-row-named (x ∷ xs) (row ∷ rows) o a zero r h e = omega (arith, o .0 r e, a .0)
-row-named (x ∷ xs) (row ∷ rows) o a (suc i) r h e = row-named xs rows (o .1) (a .1) i r (omega arith) e
+use Rattle.exports.proofs.Named.{refusal-named}
 
 -- no refusal of a check has number 0
-refusal-named : (line : Line) (s : List ℕ) (fibres assigns : ℕ) (r : Refusal) → Given (checkTable line s fibres assigns) r → 1 ≤ r .number
-refusal-named line s fibres assigns r g =
-    row-named (1 ∷ 2 ∷ 3 ∷ 12 ∷ 4 ∷ 5 ∷ 6 ∷ 7 ∷ 16 ∷ 16 ∷ []) (checkTable line s fibres assigns) (check-in-order line s fibres assigns)
-    (omega arith, (omega arith, (omega arith, (omega arith, (omega arith, (omega arith, (omega arith, (omega arith, (omega arith, (omega arith, tt))))))))))
-    (g .index) r (g .below) (g .here)
+check-named : (line : Line) (s : List ℕ) (fibres assigns : ℕ) (r : Refusal) → Given (checkTable line s fibres assigns) r → 1 ≤ r .number
+check-named line s fibres assigns r g =
+    refusal-named (1 ∷ 2 ∷ 3 ∷ 12 ∷ 4 ∷ 5 ∷ 6 ∷ 7 ∷ 16 ∷ 16 ∷ []) (checkTable line s fibres assigns) (check-in-order line s fibres assigns) refl r g
 
 -- of places whose rules have numbers from 1 on, no fault has number 0
 fault-named : (rules : ℕ → List Rule) (m : ℕ) (b : Breach) → ((i : ℕ) → Rising 0 (rules i)) → FirstFault rules m b → 1 ≤ b .rule
@@ -82,7 +66,7 @@ module _ (line : Line) (s fibres assigns : List ℕ) where
       told-no rule place (breach-named line (circuitsOf s) (fibresOf fibres) (assignmentsOf assigns) b (said .first))
   told-back (Refused number place end) e =
       let r : Refusal = record { number = number; place = place; end = end } in
-      told-refused number place end (refusal-named line s (length fibres) (length assigns) r (seen line s fibres assigns (Refused number place end) e .as-tabled r refl))
+      told-refused number place end (check-named line s (length fibres) (length assigns) r (seen line s fibres assigns (Refused number place end) e .as-tabled r refl))
 
   -- a finding of `check_plan`, flattened, is what is promised
   pub check-exported : (f : Finding) (r : CheckAnswer) → r ≡ flatFinding f → f ≡ checked line s fibres assigns → CheckExported line s fibres assigns r

@@ -1,12 +1,9 @@
--- What `fibre_plan` answers, and what the three lent areas hold afterwards, for every input. What a reader must believe.
+-- What `fibre_plan` and `fibre_add` answer: the outcomes of `plan` and `add`, with a plain struct for the answer. What a reader must believe.
 -- Assumes nothing.
 use Prim.Native.Nat.{ℕ, zero, suc}
 use mathlib.Core.Path.{_≡_}
-use mathlib.Core.List.{List}
 use Rattle.records.specs.declared.Line.{Line}
-use Rattle.register.specs.Areas.{Areas}
 use Rattle.register.specs.declared.Counts.{Counts}
-use Rattle.planner.specs.Outcome.{Outcome}
 use Rattle.planner.specs.declared.Answer.{Answer}
 use Rattle.planner.specs.declared.Answer.the-variants.{Planned, Refused}
 use Rattle.exports.specs.declared.PlanAnswer.{PlanAnswer}
@@ -29,7 +26,7 @@ told r = toldBy (r .refusal) (r .place) (r .end) (record { fibres = r .fibres; t
 abbrev pub lineOf : ℕ → ℕ → ℕ → Line
 lineOf links wavelengths grid = record { links = links; wavelengths = wavelengths; grid = grid }
 
--- the answer that is told and every byte of the three lent areas are an outcome of `plan`, and the struct tells nothing else
-pub record Exported (line : Line) (s : List ℕ) (before after : Areas) (r : PlanAnswer) : Type 0 where
-  pub outcome : Outcome line s before after (told r)
+-- what an operation promises of its answer, it promises of the struct: the answer that is told has this outcome, and the struct tells nothing else
+pub record Exported (Outcome : Answer → Type 0) (r : PlanAnswer) : Type 0 where
+  pub outcome : Outcome (told r)
   pub plain : r ≡ flat (told r)

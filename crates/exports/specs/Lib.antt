@@ -1,2 +1,3 @@
 pub mod Exported
+pub mod AddExported
 pub mod CheckExported

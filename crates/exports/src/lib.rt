@@ -1,10 +1,12 @@
-// The planner and the check for callers in C and Rust: the answer's enum as a plain struct of numbers.
+// The planner, additions and the check for callers in C and Rust: the answer's enum as a plain struct of numbers.
+pub mod add;
 pub mod check;
 
 use planner::Answer;
 use records::Line;
 ghost use mathlib.Core.Path.{_≡_};
 ghost use Rattle.register.specs.Areas.{areas};
+ghost use Rattle.planner.specs.Outcome.{Outcome};
 ghost use Rattle.exports.specs.Exported.{flat, lineOf, Exported};
 
 // Planned where `refusal` is 0, with the three numbers; else the refusal's number and place, which end is wrong, and zeros.
@@ -53,7 +55,7 @@ pub extern "C" fn fibre_plan(
     assignments: &mut [u8],
     work: &mut [u8],
 ) -> PlanAnswer
-    ensures { λ r. ⌜ Exported (lineOf links wavelengths grid) (now (circuits .entry)) (areas (now (fibres .entry)) (now (assignments .entry)) (now (work .entry))) (areas (now (fibres .exit)) (now (assignments .exit)) (now (work .exit))) r ⌝ }
+    ensures { λ r. ⌜ Exported (Outcome (lineOf links wavelengths grid) (now (circuits .entry)) (areas (now (fibres .entry)) (now (assignments .entry)) (now (work .entry))) (areas (now (fibres .exit)) (now (assignments .exit)) (now (work .exit)))) r ⌝ }
 {
     let line = Line {
         links,

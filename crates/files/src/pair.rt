@@ -1,8 +1,11 @@
-// Two files that belong together, replaced by one writer so that the folder at no moment holds one of the old pair beside one of the new. The last of the two is the
-// one without which the pair is refused: it is moved away before the first is replaced, and comes back last.
+// Files that belong together, replaced by one writer so that the folder at no moment holds all of them with some old and some new. The last of them is the one
+// without which the others are refused: it is moved away before the first is replaced, and comes back last.
 use crate::Moved;
+ghost use mathlib.Core.Path.{_≡_};
+ghost use lib.ListN.{length};
 
-// What became of the pair: it is new, or it is as it was since the drafts could not be written, or a file could not take its name, and then the last may be missing.
+// What became of the files: they are new, or they are as they were since the drafts could not be written, or a file could not take its name, and then the last may be
+// missing.
 pub enum Replacement {
     Done,
     NotWritten,
@@ -35,12 +38,19 @@ fn write_draft(name: &[u8], bytes: &[u8]) -> bool {
     0 <= closed
 }
 
-// Writes both drafts.
-fn write_drafts(first_new: &[u8], first_bytes: &[u8], last_new: &[u8], last_bytes: &[u8]) -> bool {
-    if !write_draft(first_new, first_bytes) {
-        return false;
+// Writes two drafts.
+fn write_both(first_new: &[u8], first: &[u8], last_new: &[u8], last: &[u8]) -> bool {
+    write_draft(first_new, first) && write_draft(last_new, last)
+}
+
+// Removes the drafts.
+fn no_drafts(drafts: &[&[u8]], last_new: &[u8]) {
+    os::unlink(last_new);
+    let mut i = 0;
+    while i < drafts.len() {
+        os::unlink(drafts[i]);
+        i += 1;
     }
-    write_draft(last_new, last_bytes)
 }
 
 // Moves the old last file away, if there is one. What stands under the other name goes first: were it the same file, a move would do nothing.
@@ -65,28 +75,41 @@ fn names_to_disk() {
     libc::close(fd);
 }
 
-// The new first file takes its name. If it cannot, the old last file comes back if it was moved away.
-fn new_first(moved: bool, first: &[u8], first_new: &[u8], last: &[u8], last_old: &[u8]) -> bool {
-    if 0 <= os::rename(first_new, first) {
-        return true;
+// The new files before the last take their names, one after the other. What is told: how many did.
+fn name_others(names: &[&[u8]], drafts: &[&[u8]]) -> usize
+    requires { ⌜ length (now drafts) ≡ length (now names) ⌝ }
+{
+    let mut i = 0;
+    while i < names.len() {
+        if os::rename(drafts[i], names[i]) < 0 {
+            return i;
+        }
+        i += 1;
     }
-    if moved {
-        os::rename(last_old, last);
-    }
-    false
+    i
 }
 
-// With no last file, and the old one moved away or not: the new first file, and then the new last one, take their names.
-fn name_both(
+// With no last file, and the old one moved away or not: the new files take their names, the last one at the end. Where the first cannot, the old last file comes back if it
+// was moved away, and the drafts go; where a later one cannot, its draft and those after it stay, since the names of those before it are taken.
+fn name_all(
     moved: bool,
-    first: &[u8],
-    first_new: &[u8],
+    names: &[&[u8]],
+    drafts: &[&[u8]],
     last: &[u8],
     last_new: &[u8],
     last_old: &[u8],
-) -> bool {
+) -> bool
+    requires { ⌜ length (now drafts) ≡ length (now names) ⌝ }
+{
     names_to_disk();
-    if !new_first(moved, first, first_new, last, last_old) {
+    let named = name_others(names, drafts);
+    if named < names.len() {
+        if named == 0 {
+            if moved {
+                os::rename(last_old, last);
+            }
+            no_drafts(drafts, last_new);
+        }
         return false;
     }
     names_to_disk();
@@ -100,42 +123,41 @@ fn name_both(
 
 // The new files take their names; in between there is no last file.
 fn take_names(
-    first: &[u8],
-    first_new: &[u8],
+    names: &[&[u8]],
+    drafts: &[&[u8]],
     last: &[u8],
     last_new: &[u8],
     last_old: &[u8],
-) -> bool {
+) -> bool
+    requires { ⌜ length (now drafts) ≡ length (now names) ⌝ }
+{
     let away = last_away(last, last_old);
     match away {
-        Away::Moved => name_both(true, first, first_new, last, last_new, last_old),
-        Away::Missing => name_both(false, first, first_new, last, last_new, last_old),
-        Away::Stuck => false,
+        Away::Moved => name_all(true, names, drafts, last, last_new, last_old),
+        Away::Missing => name_all(false, names, drafts, last, last_new, last_old),
+        Away::Stuck => {
+            no_drafts(drafts, last_new);
+            false
+        }
     }
 }
 
-// Removes both drafts.
-fn no_drafts(first_new: &[u8], last_new: &[u8]) {
-    os::unlink(last_new);
-    os::unlink(first_new);
-}
-
-// Replaces both files by files of these bytes, each under its name; the drafts and the old last file stand under names of their own meanwhile.
-fn replace(
-    first: &[u8],
-    first_new: &[u8],
-    first_bytes: &[u8],
+// The drafts, if all were written, take the names of the files; the old last file stands under a name of its own meanwhile.
+fn put_in_place(
+    written: bool,
+    names: &[&[u8]],
+    drafts: &[&[u8]],
     last: &[u8],
     last_new: &[u8],
     last_old: &[u8],
-    last_bytes: &[u8],
-) -> Replacement {
-    if !write_drafts(first_new, first_bytes, last_new, last_bytes) {
-        no_drafts(first_new, last_new);
+) -> Replacement
+    requires { ⌜ length (now drafts) ≡ length (now names) ⌝ }
+{
+    if !written {
+        no_drafts(drafts, last_new);
         return Replacement::NotWritten;
     }
-    if !take_names(first, first_new, last, last_new, last_old) {
-        no_drafts(first_new, last_new);
+    if !take_names(names, drafts, last, last_new, last_old) {
         return Replacement::NotNamed;
     }
     Replacement::Done
@@ -143,26 +165,57 @@ fn replace(
 
 // Replaces line.rec and circuits.rec by files of these bytes. At every moment there is the old pair, or the new pair, or no line.rec.
 pub fn replace_records(line: &[u8], circuits: &[u8]) -> Replacement {
-    replace(
-        b"circuits.rec",
-        b"circuits.rec.new",
-        circuits,
+    let written = write_both(b"circuits.rec.new", circuits, b"line.rec.new", line);
+    put_in_place(
+        written,
+        &[b"circuits.rec"],
+        &[b"circuits.rec.new"],
         b"line.rec",
         b"line.rec.new",
         b"line.rec.old",
-        line,
+    )
+}
+
+// The same where assign.rec is the last file.
+fn put_with_assignments(written: bool, names: &[&[u8]], drafts: &[&[u8]]) -> Replacement
+    requires { ⌜ length (now drafts) ≡ length (now names) ⌝ }
+{
+    put_in_place(
+        written,
+        names,
+        drafts,
+        b"assign.rec",
+        b"assign.rec.new",
+        b"assign.rec.old",
     )
 }
 
 // Replaces fibres.rec and assign.rec by files of these bytes. At every moment there is the old pair, or the new pair, or no assign.rec.
 pub fn replace_lists(fibres: &[u8], assigns: &[u8]) -> Replacement {
-    replace(
+    let written = write_both(b"fibres.rec.new", fibres, b"assign.rec.new", assigns);
+    put_with_assignments(written, &[b"fibres.rec"], &[b"fibres.rec.new"])
+}
+
+// Two files before assign.rec, which take their names in this order.
+fn put_two<'a>(
+    written: bool,
+    first: &'a [u8],
+    second: &'a [u8],
+    first_new: &'a [u8],
+    second_new: &'a [u8],
+) -> Replacement {
+    put_with_assignments(written, &[first, second], &[first_new, second_new])
+}
+
+// Replaces circuits.rec, fibres.rec and assign.rec by files of these bytes. At every moment there are the old three, or the new three, or no assign.rec.
+pub fn replace_plan(circuits: &[u8], fibres: &[u8], assigns: &[u8]) -> Replacement {
+    let written = write_draft(b"circuits.rec.new", circuits)
+        && write_both(b"fibres.rec.new", fibres, b"assign.rec.new", assigns);
+    put_two(
+        written,
+        b"circuits.rec",
         b"fibres.rec",
+        b"circuits.rec.new",
         b"fibres.rec.new",
-        fibres,
-        b"assign.rec",
-        b"assign.rec.new",
-        b"assign.rec.old",
-        assigns,
     )
 }

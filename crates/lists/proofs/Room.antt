@@ -1,18 +1,13 @@
 -- What is kept and printed lies within the buffers. Assumes nothing.
 use Prim.Native.Nat.{ℕ, _≤_}
-use mathlib.Core.Path.{_≡_, ap, subst, _∙_}
+use mathlib.Core.Path.{_≡_, subst}
 use mathlib.Core.List.{List}
 use mathlib.Core.Option.{Option, none, some}
-use native.Mathlib.Omega.{arith}
-use lib.ListN.{length, length-append, drop}
-use Rattle.text.specs.Wrote.{Wrote}
+use lib.ListN.{length}
 use Rattle.prints.specs.Keeping.{Keeps, Lists}
 use Rattle.prints.specs.declared.keeping.Kept.{Kept}
 use Rattle.prints.specs.declared.keeping.Kept.the-variants.{Both, Neither}
-
--- what was written ends where the buffer does, or before
-inside : (text before after : List ℕ) (n : ℕ) → Wrote text n before after → n ≤ length after
-inside text before after n w = omega (arith, w .0, ap length (w .1) ∙ length-append text (drop n before))
+use Rattle.prints.proofs.KeepingLaws.{inside}
 
 -- both lists and the text
 pub both-held : (lists : Option Lists) (text : List ℕ) (r : Kept) (f a k : ℕ) (fibres₀ fibres assigns₀ assigns out₀ out : List ℕ) → Keeps lists text r fibres₀ fibres assigns₀ assigns out₀ out → r ≡ Both f a k

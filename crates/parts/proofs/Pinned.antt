@@ -18,7 +18,7 @@ use Rattle.register.specs.declared.Counts.{Counts}
 use Rattle.parts.specs.Part.{PartSettled, Scattered}
 
 -- a byte stands in its record
-byte-in : (s : List ℕ) (j : ℕ) → getD s j 0 ≡ getD (recordAt s (j / 8)) (j % 8) 0
+pub byte-in : (s : List ℕ) (j : ℕ) → getD s j 0 ≡ getD (recordAt s (j / 8)) (j % 8) 0
 byte-in s j =
     let z : j ≡ 8 * (j / 8) + j % 8 = omega arith in
     ap (λ x. getD s x 0) z ∙ sym (getD-take 8 (drop (8 * (j / 8)) s) (j % 8) 0 (omega arith) ∙ getD-drop (8 * (j / 8)) s (j % 8) 0)

@@ -6,7 +6,7 @@ use mathlib.Core.Path.{_≡_, refl, ap, _∙_, sym}
 use native.Mathlib.Omega.{arith}
 use Rattle.basics.proofs.Bools.{by-eq}
 use Rattle.records.specs.Records.{putRecord, recordAt}
-use Rattle.placing.proofs.RecordLaws.{length-putRecord, record-other, record-same}
+use Rattle.records.proofs.RecordLaws.{length-putRecord, record-other, record-same}
 use Rattle.parts.specs.Part.{Once, Scattered}
 
 module _ (b : ℕ) (js : List ℕ) (f : ℕ → List ℕ) where

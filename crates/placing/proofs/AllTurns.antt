@@ -16,9 +16,10 @@ use Rattle.places.proofs.RiderLaws.{given-other, given-same}
 use Rattle.places.proofs.RisingLaws.{Each, each-imp, each-of}
 use Rattle.places.proofs.TurnLaws.{turn-length, turn-other}
 use Rattle.additions.specs.Adding.{finds, give}
-use Rattle.placing.specs.Riding.{Riding, fibresIn}
+use Rattle.placing.specs.Riding.{Riding, spansOf}
+use Rattle.placing.specs.Turns.{InTurn, PlacedAll, givenBytes, recorded}
 use Rattle.placing.specs.inner.Spots.{Columns, spansIn}
-use Rattle.placing.specs.Turns.{InTurn, PlacedAll, PlacedOne, Standing, givenBytes, recorded}
+use Rattle.placing.specs.inner.Standing.{PlacedOne, Standing}
 use Rattle.placing.proofs.OneTurn.{corners-none}
 use Rattle.placing.proofs.SpotLaws.{columns-place}
 
@@ -101,14 +102,14 @@ module _ (fs : List Fibre) (many w : ℕ) (old : List Rider) (ds : List Circuit)
 
 -- COLUMNS. What is given by the columns of the fibre records is given by the fibres
 columns-give : (many w : ℕ) (fibres firsts lasts : List ℕ) → Columns many fibres firsts lasts → (old : List Rider) (ds : List Circuit) (js : List ℕ) (gs : List Assignment)
-    → give (spansIn many firsts lasts) w old ds js gs ≡ give (fibresIn many fibres) w old ds js gs
+    → give (spansIn many firsts lasts) w old ds js gs ≡ give (spansOf many fibres) w old ds js gs
 unfolding give finds
 columns-give many w fibres firsts lasts k old ds js gs =
     ap (λ (f : List Assignment → ℕ → Assignment). inTurn f js gs) (fun-ext (λ hs. fun-ext (λ j. columns-place many fibres firsts lasts k 1 w (old ++ riders ds hs) (circuit ds j))))
 
 -- so who was placed by the columns was placed on the fibres
 pub placed-by-columns : (many w : ℕ) (fibres firsts lasts : List ℕ) → Columns many fibres firsts lasts → (old : List Rider) (ds : List Circuit) (gs : List Assignment) (js s₀ ends assigns heads next : List ℕ)
-    → PlacedAll many w old ds (spansIn many firsts lasts) gs js s₀ ends assigns heads next → PlacedAll many w old ds (fibresIn many fibres) gs js s₀ ends assigns heads next
+    → PlacedAll many w old ds (spansIn many firsts lasts) gs js s₀ ends assigns heads next → PlacedAll many w old ds (spansOf many fibres) gs js s₀ ends assigns heads next
 placed-by-columns many w fibres firsts lasts k old ds gs js s₀ ends assigns heads next p =
     let e = columns-give many w fibres firsts lasts k old ds js gs in
     record {

@@ -17,7 +17,8 @@ use Rattle.records.specs.declared.Circuit.{Circuit}
 use Rattle.method.specs.Line.{overlap}
 use Rattle.places.specs.Places.{Rider, clashes, free, freeWavelength, rider}
 use Rattle.places.proofs.PlaceLaws.{clashes-fibre, clashes-of, clashes-overlap, clashes-wavelength, free-apart, free-of}
-use Rattle.placing.specs.Riding.{Among, Chain, Chained, hops}
+use Rattle.placing.specs.Riding.{Among, Chain, Chained}
+use Rattle.placing.specs.inner.Rides.{hops}
 use Rattle.placing.specs.inner.Spots.{Bounded, Cornered, Cornering, Corners, ShutsOut, within}
 use Rattle.placing.proofs.ChainLaws.{ended, here, hops-are}
 use Rattle.placing.proofs.MarkLaws.{chain-short}

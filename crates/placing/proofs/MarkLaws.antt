@@ -18,8 +18,9 @@ use Rattle.records.specs.declared.Circuit.{Circuit}
 use Rattle.method.specs.Line.{overlap}
 use Rattle.places.specs.Places.{Rider, free, rider}
 use Rattle.places.proofs.PlaceLaws.{clashes-fibre, clashes-of, clashes-overlap, clashes-wavelength, free-apart, free-of}
-use Rattle.placing.specs.Riding.{Among, Chain, Chained, hops}
+use Rattle.placing.specs.Riding.{Among, Chain, Chained}
 use Rattle.placing.specs.inner.Marking.{Marked, Marking, clear, shown}
+use Rattle.placing.specs.inner.Rides.{hops}
 use Rattle.placing.proofs.ChainLaws.{ended, here, hops-are}
 
 -- a chain has at most 2,048 places

@@ -5,6 +5,7 @@ use mathlib.Core.List.{List, _++_}
 use mathlib.Core.Logic.{_≢_}
 use mathlib.Core.Path.{_∙_, _≡_, ap, refl, subst, sym}
 use native.Mathlib.Omega.{arith}
+use Rattle.basics.proofs.Bools.{by-le}
 use Rattle.basics.proofs.Tables.{zeros-at}
 use Rattle.records.specs.Records.{assignmentBytes, assignmentOf, circuitOf, circuitsIn, putRecord, recordAt}
 use Rattle.records.specs.declared.AssignmentRecord.{AssignmentRecord}
@@ -18,11 +19,14 @@ use Rattle.places.specs.Turns.{number}
 use Rattle.places.proofs.PlaceLaws.{clashes-fibre, free-apart, free-of, place-lowest}
 use Rattle.places.proofs.RiderLaws.{append-set, length-riders, rider-is, rider-new, rider-other, riders-set}
 use Rattle.additions.specs.Adding.{finds}
-use Rattle.placing.specs.Riding.{Riding, noted}
-use Rattle.placing.specs.inner.Spots.{Corners, Spotted}
-use Rattle.placing.specs.Turns.{PlacedOne, Standing, givenBytes}
+use Rattle.placing.specs.Riding.{Riding}
+use Rattle.placing.specs.Found.{Spotted}
+use Rattle.placing.specs.Turns.{givenBytes}
+use Rattle.placing.specs.inner.Rides.{noted}
+use Rattle.placing.specs.inner.Spots.{Corners}
+use Rattle.placing.specs.inner.Standing.{PlacedOne, Seated, Standing}
 use Rattle.placing.proofs.CornerLaws.{none-either}
-use Rattle.placing.proofs.RecordLaws.{length-putRecord, record-other, record-same}
+use Rattle.records.proofs.RecordLaws.{length-putRecord, record-other, record-same}
 use Rattle.placing.proofs.RideLaws.{none-rides, rides}
 
 -- zeros shut out nobody
@@ -98,12 +102,16 @@ module _ (many w : ℕ) (old : List Rider) (ds : List Circuit) (gs : List Assign
           }
 
 -- what is known of a place that was found
-pub spot-fits : (fs : List Fibre) (lo hi : ℕ) (rs : List Rider) (c : Circuit) (q v : ℕ) → Spotted fs lo hi rs c q v → 1 ≤ q → (q ≤ length fs) × (v ≤ hi)
+spot-fits : (fs : List Fibre) (lo hi : ℕ) (rs : List Rider) (c : Circuit) (q v : ℕ) → Spotted fs lo hi rs c q v → 1 ≤ q → (q ≤ length fs) × (v ≤ hi)
 spot-fits fs lo hi rs c q v s one =
     let s₀ = s .0 in
     let s₁ = s .1 in
     let f = (place-lowest fs lo hi rs c (omega arith)) .fits in
     (omega (arith, f .in-list), omega (arith, f .high))
+
+-- found or not, its fibre is not past the list
+pub spot-in-list : (fs : List Fibre) (lo hi : ℕ) (rs : List Rider) (c : Circuit) (q v : ℕ) → Spotted fs lo hi rs c q v → q ≤ length fs
+spot-in-list fs lo hi rs c q v s = by-le 1 q (λ one. spot-fits fs lo hi rs c q v s one .0) (λ none. omega arith)
 
 -- A TURN AS THE CODE HAS IT: circuit i of the file `new`, behind mo old ones, found fibre q and wavelength v, and its record was written
 module _ (many w mo m i : ℕ) (new : List ℕ) (fs : List Fibre) (old : List Rider) (gs : List Assignment) (ends assigns assigns' heads next untils froms untils' froms' : List ℕ) (c : Circuit) (q v : ℕ)
@@ -130,7 +138,7 @@ module _ (many w mo m i : ℕ) (new : List ℕ) (fs : List Fibre) (old : List Ri
     stood = record { one-each = h .one-each; riding = h .riding; corners = spot .1 }
 
     -- it has no place
-    pub one-none : q ≡ 0 → PlacedOne many w old (circuitsIn m new) fs gs i assigns ends assigns' heads next untils' froms'
+    one-none : q ≡ 0 → PlacedOne many w old (circuitsIn m new) fs gs i assigns ends assigns' heads next untils' froms'
     one-none e =
         record {
           said = written;
@@ -138,7 +146,7 @@ module _ (many w mo m i : ℕ) (new : List ℕ) (fs : List Fibre) (old : List Ri
         }
 
     -- it rides
-    pub one-rides : (x : ℕ) (ends' heads' next' : List ℕ) → x ≡ q → 1 ≤ x → length fs ≡ many → w < 96 → many ≤ length heads → mo + m ≤ length next
+    one-rides : (x : ℕ) (ends' heads' next' : List ℕ) → x ≡ q → 1 ≤ x → length fs ≡ many → w < 96 → many ≤ length heads → mo + m ≤ length next
         → ends' ≡ noted c (mo + i) ends → heads' ≡ set heads (x - 1) (mo + i + 1) → next' ≡ set next (mo + i) (getD heads (x - 1) 0)
         → PlacedOne many w old (circuitsIn m new) fs gs i assigns ends' assigns' heads' next' untils' froms'
     one-rides x ends' heads' next' ex one fm few wide deep e₁ e₂ e₃ =
@@ -156,3 +164,14 @@ module _ (many w mo m i : ℕ) (new : List ℕ) (fs : List Fibre) (old : List Ri
               (e₁ ∙ ap (λ k. noted c (k + i) ends) (sym eo)) (e₂ ∙ ap (λ k. set heads (x - 1) (k + i + 1)) (sym eo) ∙ ap (λ k. set heads (k - 1) (length old + i + 1)) y)
               (e₃ ∙ ap (λ k. set next (k + i) (getD heads (x - 1) 0)) (sym eo) ∙ ap (λ k. set next (length old + i) (getD heads (k - 1) 0)) y);
         }
+
+    -- either way, as its record and its chain tell
+    pub one-seated : (ends' heads' next' : List ℕ) → length fs ≡ many → w < 96 → many ≤ length heads → mo + m ≤ length next → Seated c q v (mo + i) assigns ends heads next assigns' ends' heads' next'
+        → PlacedOne many w old (circuitsIn m new) fs gs i assigns ends' assigns' heads' next' untils' froms'
+    one-seated ends' heads' next' fm few wide deep s =
+        by-le 1 q (λ one. let r = s .rides one in one-rides q ends' heads' next' refl one fm few wide deep (r .0) (r .1) (r .2))
+        (λ none.
+        let z = s .none (omega arith) in
+        subst (λ x. PlacedOne many w old (circuitsIn m new) fs gs i assigns x assigns' heads' next' untils' froms') (sym (z .0))
+        (subst (λ x. PlacedOne many w old (circuitsIn m new) fs gs i assigns ends assigns' x next' untils' froms') (sym (z .1))
+        (subst (λ x. PlacedOne many w old (circuitsIn m new) fs gs i assigns ends assigns' heads x untils' froms') (sym (z .2)) (one-none (omega arith)))))

@@ -20,18 +20,19 @@ use Rattle.register.specs.Plans.{placeOf, planIn}
 use Rattle.method.proofs.Circuits.{circuit-in}
 use Rattle.places.specs.Places.{Rider, givenTo, noRider, rider, riders, riding}
 use Rattle.places.proofs.RiderLaws.{length-riders, rider-is, rider-new, rider-old, rider-other, rider-same}
-use Rattle.placing.specs.Riding.{GivenAll, NoneRides, Riding, RidingTo, assignmentsIn, fibresIn, noted}
-use Rattle.placing.proofs.RideLaws.{rides}
-use Rattle.placing.proofs.SpotLaws.{length-fibresIn}
+use Rattle.placing.specs.Riding.{GivenAll, NoneRides, Riding, placesOf, spansOf}
+use Rattle.placing.specs.inner.Rides.{RidingTo, noted}
+use Rattle.placing.proofs.RideLaws.{none-rides, rides}
+use Rattle.placing.proofs.SpotLaws.{length-spansOf}
 
 -- one assignment for each record
-pub length-assignmentsIn : (m : ℕ) (s : List ℕ) → length (assignmentsIn m s) ≡ m
-unfolding assignmentsIn
-length-assignmentsIn m s = length-each (λ i. placeOf (assignmentOf (recordAt s i))) 0 m
+pub length-placesOf : (m : ℕ) (s : List ℕ) → length (placesOf m s) ≡ m
+unfolding placesOf
+length-placesOf m s = length-each (λ i. placeOf (assignmentOf (recordAt s i))) 0 m
 
 -- assignment j is what its record says
-pub assignment-in : (m : ℕ) (s : List ℕ) (j : ℕ) → j < m → givenTo (assignmentsIn m s) j ≡ placeOf (assignmentOf (recordAt s j))
-unfolding givenTo assignmentsIn
+pub assignment-in : (m : ℕ) (s : List ℕ) (j : ℕ) → j < m → givenTo (placesOf m s) j ≡ placeOf (assignmentOf (recordAt s j))
+unfolding givenTo placesOf
 assignment-in m s j l = getD-each (λ i. placeOf (assignmentOf (recordAt s i))) 0 m j unassigned l ∙ ap (λ i. placeOf (assignmentOf (recordAt s i))) (zero-add j)
 
 -- riders without a place stand in empty chains
@@ -129,6 +130,18 @@ ride-turn many m j s gs room ends assigns heads next ends' heads' next' c a q l 
     (rides many (riders cs (take j gs) ++ xs) j c q ((assignmentOf (recordAt assigns j)) .wavelength) ends assigns ends' assigns heads heads' next next' (omega arith) (none-at-turn m s gs xs j l) one top wide (omega arith) fits refl
     (λ d b i. refl) refl e₁ e₂ e₃ (h xs none x y z))
 
+-- it does not
+pub ride-skip : (many m j : ℕ) (s : List ℕ) (gs : List Assignment) (room : ℕ) (ends assigns heads next : List ℕ) → j < m → givenTo gs j ≡ unassigned → RidingTo many m s gs room ends assigns heads next j → RidingTo many m s gs room ends assigns heads next (j + 1)
+ride-skip many m j s gs room ends assigns heads next l g h xs none x y z =
+    let cs = circuitsIn m s in
+    let k = length-circuitsIn m s in
+    let n = length-riders cs (take j gs) in
+    let w = length-append (riders cs (take j gs)) xs in
+    let r : Rider = riding (circuit cs j) (givenTo gs j) in
+    let step : riders cs (take (j + 1) gs) ++ xs ≡ set (riders cs (take j gs) ++ xs) j r = ap (λ l. l ++ xs) (riders-more cs gs j (omega arith)) ∙ sym (set-append-left (riders cs (take j gs)) xs j r (omega arith)) in
+    subst (λ rs. Riding many rs ends assigns heads next) (sym step)
+    (none-rides many (riders cs (take j gs) ++ xs) j r ends assigns assigns heads next (omega arith) (none-at-turn m s gs xs j l) (ap (λ (y : Assignment). y .fibre) g) refl (λ d b i. refl) (h xs none x y z))
+
 -- all ride
 pub ride-end : (many m j : ℕ) (s : List ℕ) (gs : List Assignment) (room : ℕ) (ends assigns heads next : List ℕ) → length gs ≤ j → RidingTo many m s gs room ends assigns heads next j
     → (xs : List Rider) → NoneRides xs → m + length xs ≤ 2048 → 4 * (m + length xs) ≤ room → 8 * (m + length xs) ≤ length assigns → Riding many (riders (circuitsIn m s) gs ++ xs) ends assigns heads next
@@ -136,7 +149,7 @@ ride-end many m j s gs room ends assigns heads next l h xs none x y z = subst (�
 
 -- the records of a valid plan: what `ride_all` asks
 pub valid-given : (many m w : ℕ) (fibres assigns : List ℕ) (cs : List Circuit) → length cs ≡ m → w < 96 → Valid w cs (planIn many m fibres assigns) → GivenAll many m assigns
-unfolding assigned givenTo assignmentsIn fibresIn planIn
+unfolding assigned givenTo placesOf spansOf planIn
 valid-given many m w fibres assigns cs n few v j l =
     let e = assignment-in m assigns j l in
     let f = ap (λ (g : Assignment). g .fibre) e in
@@ -146,5 +159,5 @@ valid-given many m w fibres assigns cs n few v j l =
     let x₁ = x .1 in
     let y = v .wavelength-in j (omega arith) in
     let y₁ = y .1 in
-    let k = length-fibresIn many fibres in
+    let k = length-spansOf many fibres in
     (omega arith, omega arith, omega arith)

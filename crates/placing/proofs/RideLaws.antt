@@ -17,8 +17,9 @@ use Rattle.records.specs.declared.Circuit.{Circuit}
 use Rattle.places.specs.Places.{Rider, rider}
 use Rattle.places.proofs.TwoFiles.{count-same}
 use Rattle.places.proofs.RiderLaws.{rider-other, rider-same}
-use Rattle.placing.specs.Riding.{Among, Chain, Chained, Riding, noted}
-use Rattle.placing.proofs.RecordLaws.{cell-other, cell-same, length-put}
+use Rattle.placing.specs.Riding.{Among, Chain, Chained, Riding}
+use Rattle.placing.specs.inner.Rides.{noted}
+use Rattle.records.proofs.RecordLaws.{cell-other, cell-same, length-put}
 
 -- a chain stays if the cells of its places do
 pub chain-same : (next next' l : List ℕ) (z : ℕ) → ((d : ℕ) → Among d l → getD next' d 0 ≡ getD next d 0) → Chain next z l → Chain next' z l

@@ -1,5 +1,5 @@
 -- The search for the lowest-numbered fibre that has a place for a circuit. Assumes nothing.
-use Prim.Native.Nat.{_+_, _*_, _-_, _<_, _≤_, ℕ}
+use Prim.Native.Nat.{_+_, _*_, _-_, _<_, _≤_, suc, ℕ}
 use borrow.Author.Tests.{le-leb, lt-leb}
 use lib.Dec.{leb}
 use lib.ListN.{getD, length, set}
@@ -16,22 +16,29 @@ use Rattle.basics.proofs.Searches.{seek-first, seek-ge, seek-hit, seek-le, seek
 use Rattle.basics.proofs.Tables.{getD-each, length-each}
 use Rattle.records.specs.Records.{fibreOf, recordAt}
 use Rattle.records.specs.declared.Circuit.{Circuit}
+use Rattle.records.specs.declared.FibreRecord.{FibreRecord}
 use Rattle.method.specs.Line.{Fibre, noFibre, unassigned}
-use Rattle.places.specs.Places.{Rider, fibreAt, freeFibre, freeWavelength, place, spans, hasPlace}
+use Rattle.places.specs.Places.{Rider, fibreAt, free, freeFibre, freeWavelength, place, spans, hasPlace}
 use Rattle.register.specs.Plans.{spanOf}
-use Rattle.placing.specs.Riding.{Chained, Riding, fibresIn}
-use Rattle.placing.specs.inner.Spots.{Columns, Corners, Offers, Spotted, openTo, spansIn, within}
+use Rattle.placing.specs.Riding.{Chained, Riding, spansOf}
+use Rattle.placing.specs.Found.{Spotted}
+use Rattle.placing.specs.inner.Spots.{Columns, Corners, Offers, openTo, spansIn, within}
 use Rattle.placing.proofs.CornerLaws.{corner-hit}
 
 -- one fibre for each record
-pub length-fibresIn : (many : ℕ) (s : List ℕ) → length (fibresIn many s) ≡ many
-unfolding fibresIn
-length-fibresIn many s = length-each (λ i. spanOf (fibreOf (recordAt s i))) 0 many
+pub length-spansOf : (many : ℕ) (s : List ℕ) → length (spansOf many s) ≡ many
+unfolding spansOf
+length-spansOf many s = length-each (λ i. spanOf (fibreOf (recordAt s i))) 0 many
 
 -- fibre q is what its record says
-pub fibre-is : (many : ℕ) (s : List ℕ) (q : ℕ) → 1 ≤ q → q ≤ many → fibreAt (fibresIn many s) q ≡ spanOf (fibreOf (recordAt s (q - 1)))
-unfolding fibresIn
+pub fibre-is : (many : ℕ) (s : List ℕ) (q : ℕ) → 1 ≤ q → q ≤ many → fibreAt (spansOf many s) q ≡ spanOf (fibreOf (recordAt s (q - 1)))
+unfolding spansOf
 fibre-is many s q a b = getD-each (λ i. spanOf (fibreOf (recordAt s i))) 0 many (q - 1) noFibre (omega arith) ∙ ap (λ i. spanOf (fibreOf (recordAt s i))) (zero-add (q - 1))
+
+-- whether fibre q spans a circuit, by its record
+pub record-spans : (many : ℕ) (s : List ℕ) (q : ℕ) (f : FibreRecord) (c : Circuit) → 1 ≤ q → q ≤ many → f ≡ fibreOf (recordAt s (q - 1)) → spans (fibreAt (spansOf many s) q) c ≡ leb (f .first) (c .first) && leb (c .last) (f .last)
+unfolding spans
+record-spans many s q f c a b e = ap (λ (x : Fibre). leb (x .first) (c .first) && leb (c .last) (x .last)) (fibre-is many s q a b) ∙ sym (ap (λ (x : FibreRecord). leb (x .first) (c .first) && leb (c .last) (x .last)) e)
 
 -- COLUMNS. One fibre for each entry
 pub length-spansIn : (many : ℕ) (firsts lasts : List ℕ) → length (spansIn many firsts lasts) ≡ many
@@ -59,10 +66,10 @@ same-ends fs gs n h lo hi rs c =
 
 -- so the columns of the fibre records have the places of the fibres
 pub columns-place : (many : ℕ) (fibres firsts lasts : List ℕ) → Columns many fibres firsts lasts
-    → (lo hi : ℕ) (rs : List Rider) (c : Circuit) → place (spansIn many firsts lasts) lo hi rs c ≡ place (fibresIn many fibres) lo hi rs c
+    → (lo hi : ℕ) (rs : List Rider) (c : Circuit) → place (spansIn many firsts lasts) lo hi rs c ≡ place (spansOf many fibres) lo hi rs c
 columns-place many fibres firsts lasts k lo hi rs c =
-    let n = length-fibresIn many fibres in
-    same-ends (spansIn many firsts lasts) (fibresIn many fibres) (length-spansIn many firsts lasts ∙ sym n)
+    let n = length-spansOf many fibres in
+    same-ends (spansIn many firsts lasts) (spansOf many fibres) (length-spansIn many firsts lasts ∙ sym n)
     (λ q a b.
     let z = fibre-is many fibres q a (omega arith) in (
       span-first many firsts lasts q a (omega arith) ∙ k .first-is (q - 1) (omega arith) ∙ sym (ap (λ (f : Fibre). f .first) z),
@@ -136,6 +143,11 @@ module _ (fs : List Fibre) (lo hi : ℕ) (rs : List Rider) (c : Circuit) where
   unfolding hasPlace
   offer-free q v s e = (rw s (ap (λ x. leb x hi) e), λ h. e)
 
+  -- one that does not offers none
+  pub no-offer : (q v : ℕ) → spans (fibreAt fs q) c ≡ false → hi < v → Offers fs lo hi rs c q v
+  unfolding hasPlace
+  no-offer q v s h = (lt-leb v hi h ∙ rw s refl, λ b. absurd (omega arith))
+
   -- what is offered past hi is no place
   pub offer-no : (q v : ℕ) → Offers fs lo hi rs c q v → hi < v → hasPlace fs lo hi rs c q ≡ false
   offer-no q v o h = sym (o .0) ∙ lt-leb v hi h
@@ -184,3 +196,13 @@ pub chained-here : (many i h : ℕ) (rs : List Rider) (ends assigns heads next :
 chained-here many i h rs ends assigns heads next l e r =
     let z : i + 1 - 1 ≡ i = omega arith in
     subst (λ (x : ℕ). Chained rs ends assigns next x (i + 1)) (ap (λ (x : ℕ). getD heads x 0) z ∙ sym e) (r .chained (i + 1) (omega arith) (omega arith))
+
+-- a single wavelength is free exactly if the lowest free one from it to itself is not past it
+pub free-alone : (rs : List Rider) (c : Circuit) (q v x : ℕ) → x ≡ freeWavelength v v rs c q → leb x v ≡ free rs c q v
+unfolding freeWavelength
+free-alone rs c q v x e =
+    let one : suc v - v ≡ 1 = omega arith in
+    let is : x ≡ seek (free rs c q) v 1 = e ∙ ap (seek (free rs c q) v) one in
+    let low = seek-ge (free rs c q) v 1 in
+    by-le x v (λ l. let h : seek (free rs c q) v 1 ≡ v = omega arith in le-leb x v l ∙ sym (sym (ap (free rs c q) h) ∙ seek-hit (free rs c q) v 1 (omega arith)))
+    (λ l. lt-leb x v l ∙ sym (seek-miss (free rs c q) v 1 v (omega arith) (omega arith)))

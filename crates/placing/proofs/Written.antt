@@ -1,8 +1,7 @@
 -- The records that are written, one by one. Assumes nothing.
-use Prim.Native.Nat.{_+_, _*_, _-_, _<_, _≤_, ℕ}
+use Prim.Native.Nat.{_+_, _*_, _<_, _≤_, ℕ}
 use lib.ListN.{drop, length, replicate, take}
-use lib.Seq.{drop-append-add, drop-drop, length-take-le, take-append-le, take-take}
-use mathlib.Core.List.{List, [], _++_, _∷_}
+use mathlib.Core.List.{List, [], _∷_}
 use mathlib.Core.Logic.{⊎-elim}
 use mathlib.Core.Path.{_∙_, _≡_, ap, refl, subst, sym}
 use native.Mathlib.Omega.{arith}
@@ -18,28 +17,12 @@ use Rattle.places.proofs.RisingLaws.{Each, each-of}
 use Rattle.additions.specs.Adding.{give, placesFound}
 use Rattle.placing.specs.Riding.{Among, NoneRides}
 use Rattle.placing.specs.Turns.{AllWritten, givenBytes, recorded}
-use Rattle.placing.proofs.RecordLaws.{length-putRecord, record-other, record-same}
+use Rattle.records.proofs.RecordLaws.{before-put, behind-put, length-putRecord, record-other, record-same}
 use Rattle.placing.proofs.Orderly.{among-at, given-are-found, none-at}
 
 -- nobody of a file that has no places yet rides
 pub none-yet : (ds : List Circuit) (m : ℕ) → NoneRides (riders ds (replicate m unassigned))
 none-yet ds m d l = ap (λ (r : Rider). r .fibre) (rider-is ds (replicate m unassigned) d (omega (arith, length-riders ds (replicate m unassigned)))) ∙ ap (λ (g : Assignment). g .fibre) (none-at m d)
-
--- bytes before a record, and behind it
-before-put : (s : List ℕ) (i : ℕ) (r : List ℕ) (a : ℕ) → a ≤ 8 * i → 8 * i + 8 ≤ length s → take a (putRecord s i r) ≡ take a s
-unfolding putRecord
-before-put s i r a l h = take-append-le a (take (8 * i) s) (r ++ drop (8 * i + 8) s) (let t = length-take-le (8 * i) s (omega arith) in omega arith) ∙ take-take a (8 * i) s l
-
-behind-put : (s : List ℕ) (i : ℕ) (r : List ℕ) (a : ℕ) → 8 * i + 8 ≤ a → 8 * i + 8 ≤ length s → length r ≡ 8 → drop a (putRecord s i r) ≡ drop a s
-unfolding putRecord
-behind-put s i r a l h e =
-    let t = length-take-le (8 * i) s (omega arith) in
-    let k = a - (8 * i + 8) in
-    let x : a ≡ length (take (8 * i) s) + (8 + k) = omega arith in
-    let y : 8 + k ≡ length r + k = omega arith in
-    let z : 8 * i + 8 + k ≡ a = omega arith in
-    ap (λ x. drop x (take (8 * i) s ++ (r ++ drop (8 * i + 8) s))) x ∙ drop-append-add (take (8 * i) s) (r ++ drop (8 * i + 8) s) (8 + k) ∙ ap (λ x. drop x (r ++ drop (8 * i + 8) s)) y
-    ∙ drop-append-add r (drop (8 * i + 8) s) k ∙ drop-drop k (8 * i + 8) s ∙ ap (λ x. drop x s) z
 
 module _ (ds : List Circuit) (b : ℕ) (gs : List Assignment) where
   -- what the writing of any record keeps is kept

@@ -1,3 +1,4 @@
 pub mod Riding
-pub mod inner
+pub mod Found
 pub mod Turns
+pub mod inner

@@ -1,7 +1,7 @@
--- New circuits in turn: what stands in bytes and tables between two turns, and the records that are written. What a reader must believe.
+-- Circuits in turn: the records that are written, and who rides then. What a reader must believe.
 -- Assumes nothing.
 use Prim.Native.Nat.{_+_, _*_, _<_, ℕ}
-use lib.ListN.{drop, getD, length, set, take}
+use lib.ListN.{drop, getD, length, take}
 use mathlib.Core.List.{List, [], _++_, _∷_}
 use mathlib.Core.Path.{_≡_}
 use Rattle.records.specs.Records.{assignmentBytes, putRecord, recordAt}
@@ -9,15 +9,8 @@ use Rattle.records.specs.declared.Circuit.{Circuit}
 use Rattle.method.specs.Line.{Assignment, Fibre}
 use Rattle.places.specs.Places.{Rider, givenTo, riders}
 use Rattle.places.specs.Turns.{number}
-use Rattle.additions.specs.Adding.{finds, give}
+use Rattle.additions.specs.Adding.{give}
 use Rattle.placing.specs.Riding.{Riding}
-use Rattle.placing.specs.inner.Spots.{Corners}
-
--- the riders `old`, and behind them the circuits ds with what gs gives them, stand in the bytes and tables; the corners are right for them
-pub record Standing (many w : ℕ) (old : List Rider) (ds : List Circuit) (gs : List Assignment) (ends assigns heads next untils froms : List ℕ) : Type 0 where
-  pub one-each : length gs ≡ length ds
-  pub riding : Riding many (old ++ riders ds gs) ends assigns heads next
-  pub corners : Corners many 1 w (old ++ riders ds gs) untils froms
 
 -- the bytes of the assignment record of circuit j, which is given g
 abbrev pub givenBytes : List Circuit → ℕ → Assignment → List ℕ
@@ -33,11 +26,6 @@ pub record InTurn (m : ℕ) (gs : List Assignment) (js : List ℕ) : Type 0 wher
   pub there : (t : ℕ) → t < length js → getD js t 0 < m
   pub waiting : (t : ℕ) → t < length js → (givenTo gs (getD js t 0)) .fibre ≡ 0
   pub once : (s t : ℕ) → s < length js → t < length js → getD js s 0 ≡ getD js t 0 → s ≡ t
-
--- circuit i was placed: its record says what it finds, and it rides there
-pub record PlacedOne (many w : ℕ) (old : List Rider) (ds : List Circuit) (fs : List Fibre) (gs : List Assignment) (i : ℕ) (s₀ ends assigns heads next untils froms : List ℕ) : Type 0 where
-  pub said : assigns ≡ putRecord s₀ (length old + i) (givenBytes ds i (finds fs w old ds gs i))
-  pub stands : Standing many w old ds (set gs i (finds fs w old ds gs i)) ends assigns heads next untils froms
 
 -- the circuits at places js were placed in turn: their records say what they are given, and who has a place rides there
 pub record PlacedAll (many w : ℕ) (old : List Rider) (ds : List Circuit) (fs : List Fibre) (gs : List Assignment) (js s₀ ends assigns heads next : List ℕ) : Type 0 where

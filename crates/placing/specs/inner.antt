@@ -1,2 +1,4 @@
 pub mod Marking
+pub mod Rides
 pub mod Spots
+pub mod Standing

@@ -10,7 +10,7 @@ use Rattle.planner.specs.Settled.{Settled}
 use Rattle.planner.specs.declared.Answer.{Answer}
 
 -- areas that hold the same bytes
-same-areas : (x y : Areas) → x .fibres ≡ y .fibres → x .assigns ≡ y .assigns → x .work ≡ y .work → x ≡ y
+pub same-areas : (x y : Areas) → x .fibres ≡ y .fibres → x .assigns ≡ y .assigns → x .work ≡ y .work → x ≡ y
 same-areas x y a b c = λ i. record { fibres = a i; assigns = b i; work = c i }
 
 -- for every input

@@ -1,15 +1,15 @@
 -- After `plan` the lists hold what the answer counts, and the text made of them is that of the sheet. Assumes nothing.
 use Prim.Native.Nat.{ℕ, zero, suc, _+_, _*_, _/_, _≤_}
 use mathlib.Core.Path.{_≡_, refl, ap, subst, sym, _∙_}
-use mathlib.Core.List.{List, [], _++_, append-nil}
+use mathlib.Core.List.{List, _++_}
 use native.Mathlib.Omega.{arith}
 use lib.ListN.{length, drop}
+use lib.Seq.{take-at}
 use Rattle.records.specs.Records.{assignmentOf, circuitsOf, fibreOf, recordAt}
-use Rattle.records.specs.declared.Circuit.{Circuit}
 use Rattle.records.specs.declared.Line.{Line}
 use Rattle.records.proofs.Files.{length-circuitsIn}
 use Rattle.method.specs.Fibres.{floor}
-use Rattle.method.specs.Line.{Assignment, Fibre, total}
+use Rattle.method.specs.Line.{total}
 use Rattle.method.specs.LitDemands.{LitDemand, litFibres}
 use Rattle.refusals.specs.Given.{NoneApplies}
 use Rattle.refusals.specs.Table.{verdict, circuitRows, areaRows, planTable}
@@ -21,12 +21,13 @@ use Rattle.refusals.proofs.Passed.{passes-room}
 use Rattle.refusals.proofs.Pieces.{none-both, none-end, none-more}
 use Rattle.register.specs.Areas.{Areas}
 use Rattle.register.specs.Lists.{countsOf, fibreList, fibreRecords, assignmentList, assignmentRecords}
-use Rattle.register.proofs.Reading.{assignment-record, fibre-record, length-assignmentRecords, length-fibreRecords}
+use Rattle.register.proofs.Reading.{length-assignmentRecords, length-fibreRecords}
 use Rattle.rows.specs.Accepted.{Accepted}
 use Rattle.planner.specs.declared.Answer.{Answer}
 use Rattle.planner.specs.declared.Answer.the-variants.{Planned, Refused}
 use Rattle.planner.specs.Outcome.{Outcome, answerBy, ifAccepted, judged, numbersOf, planOf, tableFor}
 use Rattle.planner.proofs.Accepting.{accepted, promised}
+use Rattle.checker.proofs.Planned.{taken-record}
 use Rattle.sheet_text.specs.Text.{circuitLine, circuitLines, fibreLine, fibreLines, sheetText, totalLine}
 use Rattle.text.specs.Wrote.{Wrote}
 use Rattle.prints.specs.Sheets.{planText, sheetOf, textBy}
@@ -36,24 +37,35 @@ use Rattle.prints.specs.inner.Lent.{answerText, Held, Ample}
 pub of-case : (grid : ℕ) (a b : Answer) (m r : ℕ) (fibres assigns out₀ out₁ : List ℕ) → a ≡ b → Wrote (answerText grid b m fibres assigns) r out₀ out₁ → Wrote (answerText grid a m fibres assigns) r out₀ out₁
 of-case grid a b m r fibres assigns out₀ out₁ e h = subst (λ (t : Answer). Wrote (answerText grid t m fibres assigns) r out₀ out₁) (sym e) h
 
--- the lines of fibre records do not depend on what stands behind the records
-fibre-lines : (k : ℕ) (fs : List Fibre) (rest : List ℕ) → k ≤ length fs → fibreLines k (fibreRecords 0 fs ++ rest) ≡ fibreLines k (fibreRecords 0 fs)
-unfolding fibreLines
-fibre-lines zero fs rest h = refl
-fibre-lines (suc k) fs rest h =
-    let same : recordAt (fibreRecords 0 fs ++ rest) k ≡ recordAt (fibreRecords 0 fs) k =
-    fibre-record 0 fs rest k (omega arith) ∙ sym (ap (λ (t : List ℕ). recordAt t k) (sym (append-nil (fibreRecords 0 fs))) ∙ fibre-record 0 fs [] k (omega arith)) in
-    λ i. fibre-lines k fs rest (omega arith) i ++ fibreLine (fibreOf (same i))
+-- what stands behind records does not change them
+record-front : (xs rest : List ℕ) (i : ℕ) → 8 * i + 8 ≤ length xs → recordAt (xs ++ rest) i ≡ recordAt xs i
+record-front xs rest i h = sym (taken-record (length xs) (xs ++ rest) i h) ∙ ap (λ (t : List ℕ). recordAt t i) (take-at xs rest (length xs) refl)
 
--- nor do those of assignment records
-circuit-lines : (grid m : ℕ) (cs : List Circuit) (gs : List Assignment) (rest : List ℕ) → length gs ≡ length cs → m ≤ length cs
-    → circuitLines grid m (assignmentRecords 0 cs gs ++ rest) ≡ circuitLines grid m (assignmentRecords 0 cs gs)
+-- nor the lines of fibre records
+fibre-lines : (k : ℕ) (xs rest : List ℕ) → 8 * k ≤ length xs → fibreLines k (xs ++ rest) ≡ fibreLines k xs
+unfolding fibreLines
+fibre-lines zero xs rest h = refl
+fibre-lines (suc k) xs rest h = λ i. fibre-lines k xs rest (omega arith) i ++ fibreLine (fibreOf (record-front xs rest k (omega arith) i))
+
+-- nor those of assignment records
+circuit-lines : (grid m : ℕ) (xs rest : List ℕ) → 8 * m ≤ length xs → circuitLines grid m (xs ++ rest) ≡ circuitLines grid m xs
 unfolding circuitLines
-circuit-lines grid zero cs gs rest e h = refl
-circuit-lines grid (suc m) cs gs rest e h =
-    let same : recordAt (assignmentRecords 0 cs gs ++ rest) m ≡ recordAt (assignmentRecords 0 cs gs) m =
-    assignment-record 0 cs gs rest m e (omega arith) ∙ sym (ap (λ (t : List ℕ). recordAt t m) (sym (append-nil (assignmentRecords 0 cs gs))) ∙ assignment-record 0 cs gs [] m e (omega arith)) in
-    λ i. circuit-lines grid m cs gs rest e (omega arith) i ++ circuitLine grid (assignmentOf (same i))
+circuit-lines grid zero xs rest h = refl
+circuit-lines grid (suc m) xs rest h = λ i. circuit-lines grid m xs rest (omega arith) i ++ circuitLine grid (assignmentOf (record-front xs rest m (omega arith) i))
+
+-- so the sheet of two lists is that of the records which were written at their start
+pub sheet-cut : (grid k m total floor : ℕ) (xs ys fibres₀ fibres assigns₀ assigns : List ℕ) → Wrote xs (8 * k) fibres₀ fibres → Wrote ys (8 * m) assigns₀ assigns
+    → sheetText grid k m fibres assigns total floor ≡ sheetText grid k m xs ys total floor
+unfolding sheetText
+sheet-cut grid k m total floor xs ys fibres₀ fibres assigns₀ assigns v w =
+    let one = ap (fibreLines k) (v .1) ∙ fibre-lines k xs (drop (8 * k) fibres₀) (omega (arith, v .0)) in
+    let two = ap (circuitLines grid m) (w .1) ∙ circuit-lines grid m ys (drop (8 * m) assigns₀) (omega (arith, w .0)) in
+    λ i. one i ++ two i ++ totalLine k total floor
+
+-- more room does no harm
+wider : (a : Answer) (m : ℕ) (fibres assigns : List ℕ) (room more : ℕ) → room ≤ more → Held a m fibres assigns room → Held a m fibres assigns more
+wider (Planned counts) m fibres assigns room more h z = (z .0, z .1, z .2, z .3, omega (arith, h, z .4))
+wider (Refused number place end) m fibres assigns room more h z = omega (arith, h, z)
 
 module _ (line : Line) (s : List ℕ) (before : Areas) (ample : Ample (before .fibres) (before .assigns) (before .work)) where
   -- the method's plan, and how many circuits
@@ -96,7 +108,7 @@ module _ (line : Line) (s : List ℕ) (before : Areas) (ample : Ample (before .f
   -- what is said of the answer and the two lists that `plan` left, if the verdict of tests 1 to 7 and 12 was t: the lists hold what is counted, and the text of it is that of the sheet
   abbrev Said : Verdict → Answer → List ℕ → List ℕ → Type 0
   Said t answer fibres assigns =
-      Held answer (length s / 8) fibres assigns
+      Held answer (length s / 8) fibres assigns 147536
       × (answerText (line .grid) answer (length s / 8) fibres assigns ≡ textBy t (planText (line .grid) (circuitsOf s) (planOf line s) (floor (line .links) (line .wavelengths) (circuitsOf s))))
 
   module _ (after : Areas) (answer : Answer) (o : Outcome line s before after answer) where
@@ -144,21 +156,20 @@ module _ (line : Line) (s : List ℕ) (before : Areas) (ample : Ample (before .f
       (o : Outcome line s before after answer) where
     -- where the tests pass, the lists hold the plan
     planned : (m : ℕ) → verdict (circuitRows line s) (length s / 8) ≡ Checked m → Said (Checked m) (Planned (numbersOf line s)) (after .fibres) (after .assigns)
-    unfolding countsOf planText sheetText
+    unfolding countsOf planText
     planned m q =
         let passed = verdict-passed (circuitRows line s) (length s / 8) m q .1 in
         let p = planOf line s in
-        let given = due passed .rules .valid .all-assigned in
         let few = took passed .file .few in
         let one = few-fibres passed in
         let a = ample .fibres-ample in
         let b = ample .assigns-ample in
-        let fibre-part = ap (fibreLines (length (p .fibres))) (fibres-written after answer o passed .1) ∙ fibre-lines (length (p .fibres)) (p .fibres) _ (omega arith) in
-        let circuit-part : circuitLines (line .grid) (length s / 8) (after .assigns) ≡ circuitLines (line .grid) (length (circuitsOf s)) (assignmentRecords 0 (circuitsOf s) (p .assignments)) =
-        ap (circuitLines (line .grid) (length s / 8)) (assigns-written after answer o passed .1) ∙ circuit-lines (line .grid) (length s / 8) (circuitsOf s) (p .assignments) _ given (omega (arith, many))
-        ∙ ap (λ (k : ℕ). circuitLines (line .grid) k (assignmentRecords 0 (circuitsOf s) (p .assignments))) (sym many) in (
-          (omega arith, few, omega arith, omega arith),
-          λ i. fibre-part i ++ circuit-part i ++ totalLine (length (p .fibres)) (total (p .fibres)) (floor (line .links) (line .wavelengths) (circuitsOf s)),
+        let its-floor = floor (line .links) (line .wavelengths) (circuitsOf s) in
+        let records = assignmentRecords 0 (circuitsOf s) (p .assignments) in (
+          (omega arith, omega arith, omega arith, few, omega arith),
+          sheet-cut (line .grid) (length (p .fibres)) (length s / 8) (total (p .fibres)) its-floor (fibreRecords 0 (p .fibres)) records (before .fibres) (after .fibres) (before .assigns) (after .assigns)
+              (fibres-written after answer o passed) (assigns-written after answer o passed)
+              ∙ ap (λ (k : ℕ). sheetText (line .grid) (length (p .fibres)) k (fibreRecords 0 (p .fibres)) records (total (p .fibres)) its-floor) (sym many),
         )
 
     -- by the verdict of tests 1 to 7 and 12
@@ -166,11 +177,11 @@ module _ (line : Line) (s : List ℕ) (before : Areas) (ample : Ample (before .f
     said (Checked m) q =
         subst (λ (a : Answer). Said (Checked m) a (after .fibres) (after .assigns)) (sym (is-planned after answer o (verdict-passed (circuitRows line s) (length s / 8) m q .1))) (planned m q)
     said (Failed number place end) q =
-        subst (λ (a : Answer). Said (Failed number place end) a (after .fibres) (after .assigns)) (sym (is-refused after answer o number place end q)) (tt, refl)
+        subst (λ (a : Answer). Said (Failed number place end) a (after .fibres) (after .assigns)) (sym (is-refused after answer o number place end q)) (omega arith, refl)
 
     -- the lists hold what the answer counts
-    pub held : Held answer (length s / 8) (after .fibres) (after .assigns)
-    held = said (verdict (circuitRows line s) (length s / 8)) refl .0
+    pub held : (room : ℕ) → 147536 ≤ room → Held answer (length s / 8) (after .fibres) (after .assigns) room
+    held room h = wider answer (length s / 8) (after .fibres) (after .assigns) 147536 room h (said (verdict (circuitRows line s) (length s / 8)) refl .0)
 
     -- the text made of them is that of the sheet
     pub sheet-made : answerText (line .grid) answer (length s / 8) (after .fibres) (after .assigns) ≡ sheetOf line s

@@ -4,7 +4,7 @@ use mathlib.Core.Path.{_≡_, refl, ap, ap₂, subst, sym, _∙_}
 use mathlib.Core.List.{List}
 use mathlib.Core.Option.{Option, none, some}
 use native.Mathlib.Omega.{arith}
-use lib.ListN.{length, length-replicate, replicate, take}
+use lib.ListN.{length, length-append, length-replicate, drop, replicate, take}
 use lib.Seq.{length-take-le, take-all, take-at, take-take}
 use Rattle.records.specs.LineFiles.{lineIn}
 use Rattle.records.specs.Records.{circuitsOf}
@@ -40,6 +40,10 @@ use Rattle.prints.specs.Sheets.{sheetOf}
 use Rattle.prints.specs.inner.Lent.{Ample}
 use Rattle.prints.proofs.Holding.{all-pass, assigns-written, fibres-written, is-planned, is-refused, lists-left}
 use Rattle.prints.proofs.Printing.{lent, line-cut}
+
+-- what was written ends where the buffer does, or before
+pub inside : (text before after : List ℕ) (n : ℕ) → Wrote text n before after → n ≤ length after
+inside text before after n w = omega (arith, w .0, ap length (w .1) ∙ length-append text (drop n before))
 
 -- how many bytes are told for an answer with m circuits and a text of k bytes
 abbrev pub told : Answer → ℕ → ℕ → Kept

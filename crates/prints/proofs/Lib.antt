@@ -4,3 +4,7 @@ pub mod TypedLaws
 pub mod ReadLaws
 pub mod KeepingLaws
 pub mod CheckLaws
+pub mod AddingTests
+pub mod AddingLaws
+pub mod AddingReads
+pub mod AddingChecked

@@ -4,4 +4,5 @@ pub mod Typed
 pub mod Entering
 pub mod Keeping
 pub mod Checks
+pub mod Adding
 pub mod inner

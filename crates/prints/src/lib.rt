@@ -10,6 +10,7 @@ ghost use Rattle.prints.specs.Reads.{fileRead, SheetRead};
 ghost use Rattle.prints.specs.Sheets.{sheetOf, unread, printed};
 ghost use Rattle.prints.specs.inner.Lent.{answerText, Held, Ample};
 
+pub mod adding;
 pub mod checks;
 pub mod entering;
 pub mod keeping;
@@ -24,7 +25,7 @@ fn write_answer(
     assigns: &[u8],
     out: &mut [u8],
 ) -> usize
-    requires { ⌜ Held a m (now fibres) (now assigns) × (147536 ≤ length (now out)) ⌝ }
+    requires { ⌜ Held a m (now fibres) (now assigns) (length (now out)) ⌝ }
     ensures { λ r. ⌜ Wrote (answerText grid a m (now (fibres .entry)) (now (assigns .entry))) r (now (out .entry)) (now (out .exit)) ⌝ }
 {
     match a {

@@ -5,3 +5,4 @@ pub mod Inverse
 pub mod Files
 pub mod Series
 pub mod PartCells
+pub mod RecordLaws

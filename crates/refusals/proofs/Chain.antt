@@ -83,5 +83,10 @@ circuits-short line s z y t a b =
     let p = none-left (lineRows line) _ (none-right (fileRows s) _ (verdict-passed (circuitRows line s) z y (sym a ∙ b) .1)) in
     passed3 512 (line .links) (none-first _ _ p) .1
 
+-- the line passed: it has at most 512 links
+pub line-short : (line : Line) (z y : ℕ) (t : Verdict) → t ≡ verdict (lineRows line) z → t ≡ Checked y → line .links ≤ 512
+unfolding lineRows
+line-short line z y t a b = passed3 512 (line .links) (none-first _ _ (verdict-passed (lineRows line) z y (sym a ∙ b) .1)) .1
+
 -- what the pieces that passed tell
 pub ruleset tells = (file-whole, file-few, circuits-few, circuits-short, needs)

@@ -13,11 +13,11 @@ use Rattle.basics.proofs.Bools.{and-l, and-r, by-le, or-false-l, or-false-r}
 use Rattle.basics.proofs.Searches.{any-false}
 use Rattle.records.specs.Records.{recordAt, circuitOf, numberIn}
 use Rattle.records.specs.declared.Circuit.{Circuit}
-use Rattle.refusals.specs.Table.{whenever, wherever, badEnds, hasNumber, repeats, row1, row2, row3, row4, row6, row7}
+use Rattle.refusals.specs.Table.{whenever, wherever, badEnds, hasNumber, repeats, row1, row2, row3, row4, row5, row6, row7}
 use Rattle.refusals.proofs.First.{record-none}
 
 -- a row that applies as a whole and does not apply: its test failed
-whenever-none : (number : ℕ) (b : Bool) → whenever number b ≡ none → b ≡ false
+pub whenever-none : (number : ℕ) (b : Bool) → whenever number b ≡ none → b ≡ false
 whenever-none number true e = cc
 whenever-none number false e = refl
 
@@ -52,6 +52,12 @@ passed3 = from-one 3
 -- 4: w is 1 to the limit
 pub passed4 : (limit w : ℕ) → (row4 limit w) ≡ none → (1 ≤ w) × (w ≤ limit)
 passed4 = from-one 4
+
+-- 5: no circuit number is 0
+pub passed5 : (s : List ℕ) (m : ℕ) → (row5 s m) ≡ none → (i : ℕ) → i < m → 1 ≤ numberIn s i
+passed5 s m e i h =
+    let z : numberIn s i ≢ 0 = eqb-false (numberIn s i) 0 (record-none (λ i. eqb (numberIn s i) 0) m (wherever-none 5 _ _ e) i h) in
+    omega arith
 
 -- a circuit whose ends are not bad lies on the line
 pub good-ends : (n : ℕ) (c : Circuit) → badEnds n c ≡ false → (1 ≤ c .first) × (c .first ≤ c .last) × (c .last ≤ n)

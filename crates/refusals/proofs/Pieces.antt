@@ -1,21 +1,18 @@
 -- What holds of the rows of a table, taken from its pieces and put together from them. Assumes nothing.
-use Prim.Native.Nat.{ℕ, zero, suc, _+_, _*_, _/_, _%_, _<_, _≤_}
-use borrow.Author.Tests.{leb-true}
-use mathlib.Core.Path.{_≡_, refl}
+use Prim.Native.Nat.{ℕ, zero, suc, _+_, _*_, _/_, _%_, _<_}
+use mathlib.Core.Path.{_≡_}
 use mathlib.Core.Bool.{Bool, true, false, not, _&&_}
 use mathlib.Core.List.{List, [], _∷_, _++_}
 use mathlib.Core.Option.{Option, none, some}
 use native.Mathlib.Omega.{arith}
-use lib.ListN.{length, getD}
+use lib.ListN.{length}
 use lib.Dec.{leb, ltb, eqb}
-use Rattle.basics.specs.Tools.{every}
-use Rattle.basics.proofs.Searches.{every-at}
 use Rattle.records.specs.Records.{recordAt, circuitOf, numberIn}
 use Rattle.records.specs.declared.Line.{Line}
 use Rattle.grid.specs.Frequencies.{isGrid, limitOf}
 use Rattle.refusals.specs.Refusals.{Refusal}
 use Rattle.refusals.specs.Table.{Row, whenever, wherever, firstRecord, badEnds, wrongEnd, noEnd, repeats, fileRows, lineRows, recordRows, circuitRows, areaRows, planTable}
-use Rattle.refusals.specs.Given.{rowAt, Given, InOrder, NoneApplies}
+use Rattle.refusals.specs.Given.{rowAt, InOrder, NoneApplies}
 
 -- NONE APPLIES: no row of an empty table
 pub none-end : NoneApplies []
@@ -53,7 +50,7 @@ none-right [] rows f = f
 none-right (row ∷ rs) rows f = none-right rs rows (none-rest row (rs ++ rows) f)
 
 -- NUMBERS. A row that applies as a whole gives its number
-whenever-gives : (x : ℕ) (b : Bool) (r : Refusal) → whenever x b ≡ some r → r .number ≡ x
+pub whenever-gives : (x : ℕ) (b : Bool) (r : Refusal) → whenever x b ≡ some r → r .number ≡ x
 whenever-gives x true r e = cc
 whenever-gives x false r e = absurd (let z : _≡_ {A = ℕ} 0 1 = cc in omega arith)
 
@@ -63,7 +60,7 @@ wherever-gives x endAt (some place) r e = cc
 wherever-gives x endAt none r e = absurd (let z : _≡_ {A = ℕ} 0 1 = cc in omega arith)
 
 -- two pieces, each in its order, stand in the order of both
-in-order-both : (xs ys : List ℕ) (rs rows : List Row) → InOrder xs rs → InOrder ys rows → InOrder (xs ++ ys) (rs ++ rows)
+pub in-order-both : (xs ys : List ℕ) (rs rows : List Row) → InOrder xs rs → InOrder ys rows → InOrder (xs ++ ys) (rs ++ rows)
 in-order-both [] ys [] rows o p = p
 in-order-both [] ys (row ∷ rs) rows o p = absurd o
 in-order-both (x ∷ xs) ys [] rows o p = absurd o
@@ -75,7 +72,7 @@ unfolding fileRows
 file-in-order s = (whenever-gives 1 (not (eqb (length s % 8) 0)), (whenever-gives 2 (ltb 2048 (length s / 8)), tt))
 
 -- the line
-line-in-order : (line : Line) → InOrder (3 ∷ 12 ∷ 4 ∷ []) (lineRows line)
+pub line-in-order : (line : Line) → InOrder (3 ∷ 12 ∷ 4 ∷ []) (lineRows line)
 unfolding lineRows
 line-in-order line =
     let four = whenever-gives 4 (not (leb 1 (line .wavelengths) && leb (line .wavelengths) (limitOf (line .grid)))) in
@@ -110,20 +107,3 @@ plan-in-order line s fibres assigns work =
     let rs = areaRows (line .links) (length s / 8) fibres assigns work in
     let areas = in-order-both (8 ∷ 9 ∷ 10 ∷ []) [] rs [] (area-in-order (line .links) (length s / 8) fibres assigns work) tt in
     in-order-both (1 ∷ 2 ∷ 3 ∷ 12 ∷ 4 ∷ 5 ∷ 6 ∷ 7 ∷ []) (8 ∷ 9 ∷ 10 ∷ []) (circuitRows line s) (rs ++ []) (circuits-in-order line s) areas
-
--- what a row gives is one of the numbers
-in-order-at : (xs : List ℕ) (rows : List Row) → InOrder xs rows → (i : ℕ) (r : Refusal) → i < length rows → rowAt rows i ≡ some r → (i < length xs) × (r .number ≡ getD xs i 0)
-in-order-at [] [] o i r h e = absurd (omega arith)
-in-order-at [] (row ∷ rows) o i r h e = absurd o
-in-order-at (x ∷ xs) [] o i r h e = absurd o
-in-order-at (x ∷ xs) (row ∷ rows) o zero r h e = (omega arith, o .0 r e)
-in-order-at (x ∷ xs) (row ∷ rows) o (suc i) r h e = let z = in-order-at xs rows (o .1) i r (omega arith) e in (omega arith, z .1)
-
--- no refusal of the planner has number 0
-pub plan-named : (line : Line) (s : List ℕ) (fibres assigns work : ℕ) (r : Refusal) → Given (planTable line s fibres assigns work) r → 1 ≤ r .number
-unfolding every
-plan-named line s fibres assigns work r g =
-    let ns : List ℕ = 1 ∷ 2 ∷ 3 ∷ 12 ∷ 4 ∷ 5 ∷ 6 ∷ 7 ∷ 8 ∷ 9 ∷ 10 ∷ [] in
-    let z = in-order-at ns (planTable line s fibres assigns work) (plan-in-order line s fibres assigns work) (g .index) r (g .below) (g .here) in
-    let y : leb 1 (getD ns (g .index) 0) ≡ true = every-at (λ i. leb 1 (getD ns i 0)) 0 11 refl (g .index) (omega arith) (omega arith) in
-    omega (arith, leb-true 1 (getD ns (g .index) 0) y, z .1)

@@ -218,6 +218,42 @@ pub fn assignment_room(has: usize, m: usize) -> Verdict
     room(9, 8 * m, has)
 }
 
+// A list without 8 bytes for each of its named records and of m more is refused. What it holds is compared, so that no sum passes a machine word.
+fn room_behind(number: u32, has: usize, named: usize, m: usize) -> Verdict
+    ensures { λ r. ⌜ r ≡ tested (whenever number (ltb has (8 * (named + m)))) has ⌝ }
+{
+    let holds = has / 8;
+    if holds < named {
+        return Verdict::Refused {
+            number,
+            place: 0,
+            end: 0,
+        };
+    }
+    if holds - named < m {
+        return Verdict::Refused {
+            number,
+            place: 0,
+            end: 0,
+        };
+    }
+    Verdict::Checked(has)
+}
+
+// 8: the fibre list has 8 bytes for each of its named records and of m circuits.
+pub fn fibre_room_behind(has: usize, named: usize, m: usize) -> Verdict
+    ensures { λ r. ⌜ r ≡ tested (row8 (named + m) has) has ⌝ }
+{
+    room_behind(8, has, named, m)
+}
+
+// 9: the assignment list has 8 bytes for each of its named records and of m circuits.
+pub fn assignment_room_behind(has: usize, named: usize, m: usize) -> Verdict
+    ensures { λ r. ⌜ r ≡ tested (row9 (named + m) has) has ⌝ }
+{
+    room_behind(9, has, named, m)
+}
+
 // 10: the work area has 4 bytes for each link and each circuit.
 pub fn work_room(has: usize, n: usize, m: usize) -> Verdict
     requires { ⌜ (n ≤ 512) × (m ≤ 2048) ⌝ }

@@ -2,7 +2,7 @@
 -- Assumes nothing.
 use Prim.Native.Nat.{ℕ, _+_, _*_}
 use mathlib.Core.List.{List, [], _∷_, _++_}
-use lib.ListN.{length, drop}
+use lib.ListN.{length, take, drop}
 use Rattle.records.specs.Records.{fibreBytes, assignmentBytes}
 use Rattle.records.specs.declared.Circuit.{Circuit}
 use Rattle.method.specs.Line.{Fibre, Assignment, Plan, total}
@@ -38,3 +38,7 @@ fibreList from fs old = fibreRecords from fs ++ drop (8 * length fs) old
 -- the assignment list: records at the start, in the order of the file, and the rest as it was
 unfoldable pub assignmentList : ℕ → List Circuit → List Assignment → List ℕ → List ℕ
 assignmentList from cs gs old = assignmentRecords from cs gs ++ drop (8 * length cs) old
+
+-- a list of which the first b bytes stay, and the rest is what `made` makes of it
+unfoldable pub behind : ℕ → (List ℕ → List ℕ) → List ℕ → List ℕ
+behind b made s = take b s ++ made (drop b s)

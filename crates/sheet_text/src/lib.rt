@@ -43,7 +43,7 @@ pub fn write_sheet(
     floor: usize,
     out: &mut [u8],
 ) -> usize
-    requires { ⌜ (8 * k ≤ length (now fibres)) × (8 * m ≤ length (now assigns)) × (k ≤ 2048) × (m ≤ 2048) ⌝ }
+    requires { ⌜ (8 * k ≤ length (now fibres)) × (8 * m ≤ length (now assigns)) × (k ≤ 4096) × (m ≤ 2048) ⌝ }
     requires { ⌜ 32 * k + 40 * m + 80 ≤ length (now out) ⌝ }
     ensures { λ r. ⌜ Wrote (sheetText grid k m (now (fibres .entry)) (now (assigns .entry)) total floor) r (now (out .entry)) (now (out .exit)) ⌝ }
 {

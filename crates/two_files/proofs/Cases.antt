@@ -9,4 +9,4 @@ use Rattle.two_files.specs.Bench.{AllHold, cases, twoTable}
 -- each case
 pub two-files-hold : AllHold cases
 unfolding cases twoTable verdict twoFileRows twoRecordRows firstRecord badEnds wrongEnd repeats hasOld seek any fileOf
-two-files-hold = (refl, (refl, (refl, (refl, (refl, (refl, (refl, (refl, (refl, (refl, tt))))))))))
+two-files-hold = (refl, (refl, (refl, (refl, (refl, (refl, (refl, (refl, (refl, (refl, (refl, (refl, tt))))))))))))

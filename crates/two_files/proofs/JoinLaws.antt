@@ -2,14 +2,16 @@
 use Prim.Native.Nat.{ℕ, suc, _+_, _-_, _*_, _<_, _≤_}
 use mathlib.Core.Path.{_≡_, refl, ap, _∙_, sym}
 use mathlib.Core.Bool.{Bool, true, false}
-use mathlib.Core.List.{List, _++_}
+use mathlib.Core.List.{List, [], _++_}
 use mathlib.Core.Option.{Option, none, some}
 use native.Mathlib.Omega.{arith}
-use lib.ListN.{length, take, drop, length-drop}
-use lib.Seq.{take-append-le, drop-append-le, drop-append-add}
+use lib.ListN.{length, take, drop, getD, length-append, length-drop, List·getD-append}
+use lib.Seq.{take-append-le, drop-append-le, drop-append-add, getD-append-add, ext-getD}
 use lib.Dec.{eqb}
 use Rattle.basics.proofs.Bools.{by-le}
-use Rattle.records.specs.Records.{recordAt, circuitOf, numberIn}
+use Rattle.records.specs.Records.{recordAt, circuitOf, circuitsIn, numberIn}
+use Rattle.records.specs.declared.Circuit.{Circuit}
+use Rattle.records.proofs.Files.{circuitsIn-at, length-circuitsIn}
 use Rattle.refusals.specs.Refusals.{Refusal}
 use Rattle.refusals.specs.Table.{wherever, noEnd, firstRecord, badEnds, wrongEnd, row5, row6}
 use Rattle.refusals.proofs.First.{record-first, record-none}
@@ -98,3 +100,24 @@ module _ (old new : List ℕ) (k m : ℕ) (whole : 8 * k ≡ length old) where
       (λ i. wrongEnd n (circuitOf (recordAt (old ++ new) i))) (λ i. wrongEnd n (circuitOf (recordAt old i))) (λ i. wrongEnd n (circuitOf (recordAt new i)))
       (λ i h. ap (λ (x : List ℕ). wrongEnd n (circuitOf x)) (record-old old new k whole i h))
       (λ i h. ap (λ (x : List ℕ). wrongEnd n (circuitOf x)) (record-new old new k whole i))
+
+  -- the circuits of the joined file are those of the old file, and then those of the new one
+  pub joined-circuits : circuitsIn (k + m) (old ++ new) ≡ circuitsIn k old ++ circuitsIn m new
+  joined-circuits =
+      let none : Circuit = circuitOf [] in
+      let cs = circuitsIn k old in
+      let ds = circuitsIn m new in
+      let a = length-circuitsIn k old in
+      let b = length-circuitsIn m new in
+      let e = length-circuitsIn (k + m) (old ++ new) in
+      ext-getD none (circuitsIn (k + m) (old ++ new)) (cs ++ ds) (omega (arith, length-append cs ds))
+      (λ i h.
+      let l : i < k + m = omega arith in
+      circuitsIn-at (k + m) (old ++ new) i none l
+      ∙ by-le k i
+      (λ g.
+      let z : i ≡ k + (i - k) = omega arith in
+      let y : length cs + (i - k) ≡ i = omega arith in
+      ap (λ (x : ℕ). circuitOf (recordAt (old ++ new) x)) z ∙ ap circuitOf (record-new old new k whole (i - k)) ∙ sym (circuitsIn-at m new (i - k) none (omega arith))
+      ∙ sym (getD-append-add cs ds (i - k) none) ∙ ap (λ (x : ℕ). getD (cs ++ ds) x none) y)
+      (λ g. ap circuitOf (record-old old new k whole i g) ∙ sym (circuitsIn-at k old i none g) ∙ sym (List·getD-append cs ds none i (omega arith))))

@@ -15,10 +15,11 @@ use Rattle.refusals.specs.Table.{Row, wherever, noEnd, firstRecord, hasNumber, 
 use Rattle.refusals.specs.declared.Verdict.{Verdict}
 use Rattle.refusals.specs.declared.Verdict.the-variants.{Checked, Refused}
 use Rattle.refusals.proofs.First.{refused-not-checked}
-use Rattle.refusals.proofs.Passed.{passed7}
+use Rattle.refusals.proofs.Passed.{passed7, wherever-none}
 use Rattle.two_files.specs.Rows.{later, hasOld, row14}
 use Rattle.two_files.specs.Joint.{orElse, Unlike}
 use Rattle.two_files.proofs.JoinLaws.{record-old, record-new, joined-row}
+use Rattle.two_files.proofs.LaterLaws.{later-out}
 
 -- 7 and 14 are refused at the same places
 same-place : (k z x number place end : ℕ) (o : Option ℕ) (t : Verdict) → t ≡ tested (later k (wherever 7 noEnd o)) z → t ≡ Refused number place end
@@ -95,3 +96,9 @@ module _ (s old new rest : List ℕ) (k m : ℕ) (is : s ≡ (old ++ new) ++ res
   -- 7 of s is passed: so is 14
   pub no-old-number : Unlike old k new m → (z x y : ℕ) (t : Verdict) → t ≡ tested (row7 s (k + m)) z → t ≡ Checked y → Checked x ≡ tested (row14 old k new m) x
   no-old-number u z x y t e f = same-passed k z x y (firstRecord (hasOld old k new) m) t (e ∙ ap (λ (row : Row). tested row z) (places u)) f
+
+  -- where 14 does not apply either, no number stands twice in s
+  pub none-twice : Unlike old k new m → row14 old k new m ≡ none → row7 s (k + m) ≡ none
+  none-twice u e =
+      let first = firstRecord (hasOld old k new) m in
+      places u ∙ ap (λ (o : Option ℕ). later k (wherever 7 noEnd o)) (wherever-none 14 noEnd first (later-out k (wherever 14 noEnd first) e))

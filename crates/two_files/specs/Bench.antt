@@ -3,7 +3,7 @@
 use Prim.Native.Nat.{ℕ, _+_, _/_}
 use mathlib.Core.Path.{_≡_}
 use mathlib.Core.List.{List, [], _∷_, _++_}
-use lib.ListN.{length}
+use lib.ListN.{length, replicate}
 use Rattle.records.specs.Records.{fileOf}
 use Rattle.refusals.specs.Bench.{c}
 use Rattle.refusals.specs.Table.{Row, verdict}
@@ -38,6 +38,9 @@ cases =
     -- 1 is tested within each file: two halves of a record are none
     tests 5 (1 ∷ 0 ∷ 0 ∷ 0 ∷ []) (1 ∷ 0 ∷ 1 ∷ 0 ∷ []) (Refused 1 0 0) ∷
     tests 5 (fileOf (c 3 1 2 ∷ [])) (1 ∷ []) (Refused 1 0 0) ∷
+    -- 2 counts the records of both files: 2,049 are too many, 2,048 are not
+    tests 5 (replicate 8192 0) (replicate 8200 0) (Refused 2 0 0) ∷
+    tests 5 (replicate 8192 0) (replicate 8192 0) (Refused 5 1 0) ∷
     -- 5 of both files comes before 6 of both, and 6 of both before 7
     tests 5 (fileOf (c 1 3 9 ∷ [])) (fileOf (c 0 1 1 ∷ [])) (Refused 5 2 0) ∷
     tests 5 (fileOf (c 1 1 1 ∷ c 1 1 1 ∷ [])) (fileOf (c 2 1 1 ∷ c 3 4 2 ∷ [])) (Refused 6 4 2) ∷

@@ -62,7 +62,7 @@ pub fn unlike_new(new: &[u8], m: usize, k: usize) -> Verdict
 }
 
 // The joined file, at the start of a lent list. What is told: how many bytes.
-fn join(old: &[u8], new: &[u8], out: &mut [u8]) -> usize
+pub fn join(old: &[u8], new: &[u8], out: &mut [u8]) -> usize
     requires { ⌜ length (now old) + length (now new) ≤ length (now out) ⌝ }
     ensures { λ r. ⌜ Wrote (now (old .entry) ++ now (new .entry)) r (now (out .entry)) (now (out .exit)) ⌝ }
 {

@@ -1,6 +1,7 @@
 //! The exported functions of the archive.
+use crate::Old;
 
-/// What `fibre_plan` answers, as the archive returns it. The layout is that of `include/fibre_plan.h`.
+/// What `fibre_plan` and `fibre_add` answer, as the archive returns it. The layout is that of `include/fibre_plan.h`.
 #[repr(C)]
 pub struct PlanAnswer {
     pub refusal: u32,
@@ -29,6 +30,24 @@ extern "C" {
         grid: usize,
         circuits: *const u8,
         circuits_len: usize,
+        fibres: *mut u8,
+        fibres_len: usize,
+        assignments: *mut u8,
+        assignments_len: usize,
+        work: *mut u8,
+        work_len: usize,
+    ) -> PlanAnswer;
+
+    fn fibre_add(
+        links: usize,
+        wavelengths: usize,
+        grid: usize,
+        circuits: *const u8,
+        circuits_len: usize,
+        added: *const u8,
+        added_len: usize,
+        old_fibres: usize,
+        old_assignments: usize,
         fibres: *mut u8,
         fibres_len: usize,
         assignments: *mut u8,
@@ -79,6 +98,38 @@ pub fn plan(
     }
 }
 
+/// Calls `fibre_add` on lent areas.
+pub fn add(
+    [links, wavelengths, grid]: [usize; 3],
+    old: Old<'_>,
+    added: &[u8],
+    fibres: &mut [u8],
+    assignments: &mut [u8],
+    work: &mut [u8],
+) -> PlanAnswer {
+    // SAFETY: the function takes every input; each pointer and length are those of a slice that is
+    // borrowed for the call, and the three that are written, being `&mut`, overlap nothing.
+    unsafe {
+        fibre_add(
+            links,
+            wavelengths,
+            grid,
+            old.circuits.as_ptr(),
+            old.circuits.len(),
+            added.as_ptr(),
+            added.len(),
+            old.fibres,
+            old.assignments,
+            fibres.as_mut_ptr(),
+            fibres.len(),
+            assignments.as_mut_ptr(),
+            assignments.len(),
+            work.as_mut_ptr(),
+            work.len(),
+        )
+    }
+}
+
 /// Calls `fibre_check`.
 pub fn check(
     links: usize,
@@ -107,7 +158,8 @@ pub fn check(
 
 #[cfg(test)]
 mod tests {
-    use super::{check, plan, CheckAnswer};
+    use super::{add, check, plan, CheckAnswer};
+    use crate::Old;
 
     const CIRCUIT: [u8; 8] = [7, 0, 0, 0, 1, 0, 1, 0];
 
@@ -134,6 +186,30 @@ mod tests {
             assert_eq!((answer.refusal, answer.place, answer.end), (6, 2, end));
             assert_eq!((answer.fibres, answer.total, answer.floor), (0, 0, 0));
         }
+    }
+
+    /// The six numbers of an addition of a file to circuit 7 on one fibre of one link and two wavelengths.
+    fn added(file: &[u8]) -> ([u32; 3], [usize; 3]) {
+        let old = Old {
+            circuits: &CIRCUIT,
+            fibres: 1,
+            assignments: 1,
+        };
+        let mut fibres = [1, 0, 1, 0, 1, 0, 1, 0].repeat(2);
+        let mut assignments = ASSIGNMENT.repeat(2);
+        let line = [1, 2, 1];
+        let answer = add(line, old, file, &mut fibres, &mut assignments, &mut [1; 12]);
+        (
+            [answer.refusal, answer.place, answer.end],
+            [answer.fibres, answer.total, answer.floor],
+        )
+    }
+
+    #[test]
+    fn an_addition_has_three_numbers_or_a_refusal() {
+        assert_eq!(added(&[8, 0, 0, 0, 1, 0, 1, 0]), ([0; 3], [1, 1, 1]));
+        assert_eq!(added(&[7, 0, 0, 0, 1, 0, 1, 0]), ([14, 2, 0], [0; 3]));
+        assert_eq!(added(&[8, 0, 0, 0, 1, 0, 2, 0]), ([6, 2, 3], [0; 3]));
     }
 
     /// The six numbers of an answer.

@@ -28,16 +28,20 @@
 //! # Ok::<(), Refusal>(())
 //! ```
 //!
+//! [`Plan::add`] adds circuits to a plan and moves none that is there.
+//!
 //! [`check`] says of a plan that anybody made whether it is valid, and if not, which rule it breaks first, and where.
 #![deny(missing_docs)]
 #![deny(unsafe_op_in_unsafe_fn)]
 
 mod abi;
+mod add;
 mod check;
 mod grid;
 mod records;
 mod refusal;
 
+pub use add::{add_bytes, Old};
 pub use check::{check, check_bytes, Finding, Rule};
 pub use grid::Grid;
 pub use records::{Assignment, Circuit, Fibre, RECORD_BYTES};
@@ -46,8 +50,11 @@ pub use refusal::{End, Refusal};
 /// The most links that a line may have.
 pub const MAX_LINKS: usize = 512;
 
-/// The most circuits that are planned or checked at once.
+/// The most circuits that are planned or checked at once; where some are added, with the old ones.
 pub const MAX_CIRCUITS: usize = 2048;
+
+/// The most fibres of a plan that circuits are added to.
+pub const MAX_OLD_FIBRES: usize = 2048;
 
 /// The most fibres of a plan that is checked.
 pub const MAX_FIBRES: usize = 4096;
@@ -70,12 +77,12 @@ pub struct Counts {
     pub fibres: usize,
     /// The sum over the fibres of the links that they span.
     pub total: usize,
-    /// A length that no valid plan can be shorter than; `total` is at most twice that.
+    /// A length that no valid plan can be shorter than; `total` is at most twice that where nothing was added.
     pub floor: usize,
 }
 
 /// A plan: a list of fibres and, for each circuit, one of them and a wavelength. Each link of each
-/// fibre is used by a circuit on it.
+/// fibre that was planned here is used by a circuit on it.
 #[derive(Clone, Debug, PartialEq, Eq, Hash)]
 pub struct Plan {
     /// The fibres, in the order of their numbers.
@@ -84,21 +91,22 @@ pub struct Plan {
     pub assignments: Vec<Assignment>,
     /// The sum over the fibres of the links that they span.
     pub total: usize,
-    /// A length that no valid plan can be shorter than; `total` is at most twice that.
+    /// A length that no valid plan can be shorter than; `total` is at most twice that where nothing was added.
     pub floor: usize,
 }
 
-/// The bytes that a fibre list must have, for so many circuits: there is at most one fibre a circuit.
+/// The bytes that a fibre list must have, for so many circuits: there is at most one fibre a circuit. Where circuits are added, for so
+/// many old fibres and new circuits.
 pub const fn fibre_bytes(circuits: usize) -> usize {
     circuits.saturating_mul(RECORD_BYTES)
 }
 
-/// The bytes that an assignment list must have, for so many circuits.
+/// The bytes that an assignment list must have, for so many circuits, old or new.
 pub const fn assignment_bytes(circuits: usize) -> usize {
     circuits.saturating_mul(RECORD_BYTES)
 }
 
-/// The bytes that a work area must have, for so many links and circuits.
+/// The bytes that a work area must have, for so many links and circuits, old or new.
 pub const fn work_bytes(links: usize, circuits: usize) -> usize {
     links.saturating_add(circuits).saturating_mul(4)
 }
@@ -191,6 +199,11 @@ pub fn plan_bytes(
         assignments,
         work,
     );
+    counts_or_refusal(answer)
+}
+
+/// The answer as types.
+fn counts_or_refusal(answer: abi::PlanAnswer) -> Result<Counts, Refusal> {
     match answer.refusal {
         0 => Ok(Counts {
             fibres: answer.fibres,

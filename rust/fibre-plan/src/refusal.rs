@@ -39,13 +39,14 @@ impl fmt::Display for End {
     }
 }
 
-/// Why an input was refused. A place is that of a circuit, counted from 1, but for 16.
+/// Why an input was refused. A place is that of a circuit, counted from 1, but for 16. Where circuits are added, those of the new file
+/// count on from those of the old one.
 #[derive(Clone, Copy, Debug, PartialEq, Eq, Hash)]
 #[non_exhaustive]
 pub enum Refusal {
-    /// 1: the circuit bytes are not a multiple of 8.
+    /// 1: the bytes of a circuit file are not a multiple of 8.
     Records,
-    /// 2: there are more than 2,048 circuits.
+    /// 2: there are more than 2,048 circuits, old and new ones counted together.
     Circuits,
     /// 3: the number of links is not 1 to 512.
     Links,
@@ -65,17 +66,25 @@ pub enum Refusal {
         /// Which of the three it is.
         end: End,
     },
-    /// 7: a circuit number stands twice.
+    /// 7: a circuit number stands twice in a file.
     Repeated {
         /// The first record that repeats an earlier one.
         place: usize,
     },
-    /// 8: the fibre list has fewer than 8 bytes a circuit.
+    /// 8: the fibre list has fewer than 8 bytes an old record and 8 bytes a circuit that is planned.
     FibreRoom,
-    /// 9: the assignment list has fewer than 8 bytes a circuit.
+    /// 9: the assignment list has fewer than 8 bytes an old record and 8 bytes a circuit that is planned.
     AssignmentRoom,
-    /// 10: the work area has fewer than 4 bytes a link and 4 bytes a circuit.
+    /// 10: the work area has fewer than 4 bytes a link and 4 bytes a circuit, old or new.
     WorkRoom,
+    /// 13: the plan that circuits are to be added to is not a valid one on this line, as [`check`](crate::check) tells, or has more
+    /// than 2,048 fibres.
+    OldPlan,
+    /// 14: a circuit that is to be added has the number of an old one.
+    OldNumber {
+        /// The first such record of the new file.
+        place: usize,
+    },
     /// 16, place 1: the fibre list to be checked is not whole records, or more than 4,096.
     FibreList,
     /// 16, place 2: the assignment list to be checked is not whole records, or more than 2,048.
@@ -109,6 +118,8 @@ impl Refusal {
             (9, 0, 0) => Self::AssignmentRoom,
             (10, 0, 0) => Self::WorkRoom,
             (12, 0, 0) => Self::Grid,
+            (13, 0, 0) => Self::OldPlan,
+            (14, _, 0) => Self::OldNumber { place },
             (16, 1, 0) => Self::FibreList,
             (16, 2, 0) => Self::AssignmentList,
             _ => Self::Other { number, place, end },
@@ -129,6 +140,8 @@ impl Refusal {
             Self::AssignmentRoom => 9,
             Self::WorkRoom => 10,
             Self::Grid => 12,
+            Self::OldPlan => 13,
+            Self::OldNumber { .. } => 14,
             Self::FibreList | Self::AssignmentList => 16,
             Self::Other { number, .. } => number,
         }
@@ -141,6 +154,7 @@ impl Refusal {
             Self::Zero { place }
             | Self::Ends { place, .. }
             | Self::Repeated { place }
+            | Self::OldNumber { place }
             | Self::Other { place, .. } => place,
             Self::FibreList => 1,
             Self::AssignmentList => 2,
@@ -173,6 +187,10 @@ impl Refusal {
             Self::FibreRoom => "the fibre list is too short",
             Self::AssignmentRoom => "the assignment list is too short",
             Self::WorkRoom => "the work area is too short",
+            Self::OldPlan => {
+                "the old plan is not valid on this line, or has more than 2,048 fibres"
+            }
+            Self::OldNumber { .. } => "its number stands in the old file",
             Self::FibreList => "the fibre list is not whole records, or more than 4,096",
             Self::AssignmentList => "the assignment list is not whole records, or more than 2,048",
             Self::Other { .. } => "this crate has no words for it",

@@ -1,7 +1,8 @@
-//! How much stack one call uses, as the header says: of `fibre_plan` less than 48 KB, of `fibre_check` less than 64 KB.
+//! How much stack one call uses, as the header says: of `fibre_plan` less than 48 KB, of `fibre_check` less than 64 KB, of `fibre_add` less than 96 KB.
 #![cfg(target_arch = "x86_64")]
 use fibre_plan::{
-    assignment_bytes, check_bytes, fibre_bytes, plan_bytes, work_bytes, Finding, Rule,
+    add_bytes, assignment_bytes, check_bytes, fibre_bytes, plan_bytes, work_bytes, Finding, Old,
+    Rule,
 };
 use inputs::{encode, Family, Numbers, Rng, FAMILIES};
 use std::arch::asm;
@@ -9,6 +10,9 @@ use std::hint::black_box;
 
 /// What the header promises that a plan stays below.
 const PLAN: usize = 48 * 1024;
+
+/// What the header promises that an addition stays below.
+const ADD: usize = 96 * 1024;
 
 /// What the header promises that a check stays below.
 const CHECK: usize = 64 * 1024;
@@ -27,6 +31,8 @@ struct Call {
     wavelengths: usize,
     grid: usize,
     circuits: Vec<u8>,
+    added: Vec<u8>,
+    old_fibres: usize,
     fibres: Vec<u8>,
     assignments: Vec<u8>,
     work: Vec<u8>,
@@ -45,6 +51,8 @@ impl Call {
             wavelengths,
             grid,
             circuits: encode(&list),
+            added: vec![],
+            old_fibres: 0,
             fibres: vec![0; fibre_bytes(2048)],
             assignments: vec![0; assignment_bytes(2048)],
             work: vec![0; work_bytes(512, 2048)],
@@ -61,6 +69,24 @@ extern "C" fn make(call: &mut Call) {
         call.wavelengths,
         call.grid,
         &call.circuits,
+        &mut call.fibres,
+        &mut call.assignments,
+        &mut call.work,
+    );
+    call.planned = answer.is_ok();
+}
+
+/// Adds the new circuits to what is in the areas.
+extern "C" fn add(call: &mut Call) {
+    let old = Old {
+        circuits: &call.circuits,
+        fibres: call.old_fibres,
+        assignments: call.circuits.len() / 8,
+    };
+    let answer = add_bytes(
+        [call.links, call.wavelengths, call.grid],
+        old,
+        &call.added,
         &mut call.fibres,
         &mut call.assignments,
         &mut call.work,
@@ -149,16 +175,48 @@ fn a_plan_uses_less_than_48_kb_of_stack() {
     assert!(most < PLAN, "{most} bytes of stack");
 }
 
-/// Plans, and adds dark fibres up to the most that are checked.
-fn plan_and_fill(call: &mut Call) {
+/// Plans, and adds dark fibres up to so many.
+fn plan_and_fill_to(call: &mut Call, many: u16) {
     make(call);
     let filled = |record: &[u8]| record[0] != 0 || record[1] != 0;
     let count = call.fibres.chunks_exact(8).filter(|r| filled(r)).count();
     call.fibres.truncate(8 * count);
-    for number in count as u16 + 1..=4096 {
+    for number in count as u16 + 1..=many {
         let [low, high] = number.to_le_bytes();
         call.fibres.extend([low, high, 1, 0, 1, 0, 0, 0]);
     }
+}
+
+/// Plans, and adds dark fibres up to the most that are checked.
+fn plan_and_fill(call: &mut Call) {
+    plan_and_fill_to(call, 4096);
+}
+
+/// Plans so many of the circuits, adds dark fibres up to the most that others are added to, and leaves the rest to be added.
+fn plan_some<const OLD: usize>(call: &mut Call) {
+    call.added = call.circuits.split_off(8 * OLD);
+    plan_and_fill_to(call, 2048);
+    assert!(call.planned);
+    call.old_fibres = 2048;
+    call.fibres
+        .resize(8 * call.old_fibres + call.added.len(), 0);
+}
+
+#[test]
+fn an_addition_uses_less_than_96_kb_of_stack() {
+    let prepared: [fn(&mut Call); 5] = [
+        plan_some::<0>,
+        plan_some::<1>,
+        plan_some::<1024>,
+        plan_some::<1920>,
+        plan_some::<2048>,
+    ];
+    let most = prepared.map(|prepare| most(add, prepare, |call| call.planned));
+    println!("fibre_add uses at most {most:?} bytes of stack");
+    assert!(
+        most.into_iter().all(|most| most < ADD),
+        "{most:?} bytes of stack"
+    );
 }
 
 /// Plans and fills, and gives the last circuit the place of the one before it.

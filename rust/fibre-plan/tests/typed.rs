@@ -184,6 +184,100 @@ fn refusals_of_a_check() {
 }
 
 #[test]
+fn circuits_added_to_the_listing() {
+    let (line, mut circuits, old) = listing();
+    let added = self::circuits(&[(50, 4, 5), (15, 3, 5), (60, 1, 1)]);
+    let new = old.add(line, &circuits, &added).unwrap();
+    let last = Fibre {
+        number: 3,
+        first: 1,
+        last: 1,
+        layer: 1,
+    };
+    assert_eq!(new.fibres, [&old.fibres[..], &[last]].concat());
+    let at = |(circuit, fibre, wavelength)| Assignment {
+        circuit,
+        fibre,
+        wavelength,
+    };
+    let assignments = [(50, 2, 2), (15, 1, 1), (60, 3, 1)].map(at);
+    let all = [&old.assignments[..], &assignments].concat();
+    assert_eq!(new.assignments, all);
+    assert_eq!((new.total, new.floor), (10, 10));
+    let none = new.add(line, &circuits, &[]);
+    assert_eq!(none, Err(Refusal::OldPlan), "the old circuits are seven");
+    circuits.extend(added);
+    assert_eq!(new.add(line, &circuits, &[]).as_ref(), Ok(&new));
+}
+
+#[test]
+fn total_and_floor_of_an_old_plan_are_not_read() {
+    let (line, circuits, old) = listing();
+    let (total, floor) = (usize::MAX, 0);
+    let other = Plan {
+        total,
+        floor,
+        ..old.clone()
+    };
+    let added = self::circuits(&[(1, 1, 5)]);
+    let [one, two] = [&old, &other].map(|plan| plan.add(line, &circuits, &added));
+    assert!(one.is_ok() && one == two);
+}
+
+#[test]
+fn refusals_of_an_addition() {
+    let (line, circuits, old) = listing();
+    let added = self::circuits(&[(50, 4, 5), (20, 3, 5)]);
+    let refused =
+        |line, old: &Plan, added: &[Circuit]| old.add(line, &circuits, added).unwrap_err();
+    let place = 6;
+    assert_eq!(refused(line, &old, &added), Refusal::OldNumber { place });
+    let end = End::LastPastLine;
+    let short = Line { links: 4, ..line };
+    assert_eq!(
+        refused(short, &old, &added),
+        Refusal::Ends { place: 2, end }
+    );
+    let long = self::circuits(&[(50, 4, 6)]);
+    assert_eq!(refused(line, &old, &long), Refusal::Ends { place: 5, end });
+    let few = Line {
+        wavelengths: 1,
+        ..line
+    };
+    assert_eq!(refused(few, &old, &added), Refusal::OldPlan);
+    for many in [2045, 2048, 2049, 5000] {
+        let added = self::circuits(&[(1, 1, 1)]).repeat(many);
+        assert_eq!(refused(line, &old, &added), Refusal::Circuits);
+    }
+    let many = circuits.repeat(600);
+    assert_eq!(old.add(line, &many, &[]), Err(Refusal::Circuits));
+    let mut longer = old.clone();
+    longer.assignments = old.assignments.repeat(600);
+    assert_eq!(refused(line, &longer, &[]), Refusal::OldPlan);
+}
+
+#[test]
+fn circuits_added_to_many_fibres() {
+    let (line, circuits, old) = listing();
+    for (many, sound) in [(2047, true), (2048, true), (2049, false), (5000, false)] {
+        let dark = |number| Fibre {
+            number,
+            first: 5,
+            last: 5,
+            layer: 0,
+        };
+        let mut plan = old.clone();
+        plan.fibres.extend((3..=many).map(dark));
+        let added = self::circuits(&[(50, 1, 1)]);
+        let fibres = plan
+            .add(line, &circuits, &added)
+            .map(|plan| plan.fibres.len());
+        let whole = Ok(usize::from(many) + 1);
+        assert_eq!(fibres, if sound { whole } else { Err(Refusal::OldPlan) });
+    }
+}
+
+#[test]
 fn the_bytes_as_types() {
     let list = Family::Random.circuits(300, 200, Numbers::Shuffled, &mut Rng::new(7));
     let fifty = Line {
@@ -300,6 +394,14 @@ fn refusals_as_text() {
     assert_eq!(
         Refusal::AssignmentList.to_string(),
         "refusal 16, list 2: the assignment list is not whole records, or more than 2,048"
+    );
+    assert_eq!(
+        Refusal::OldPlan.to_string(),
+        "refusal 13: the old plan is not valid on this line, or has more than 2,048 fibres"
+    );
+    assert_eq!(
+        Refusal::OldNumber { place: 9 }.to_string(),
+        "refusal 14, record 9: its number stands in the old file"
     );
     assert_eq!(
         Refusal::Grid.to_string(),

@@ -1,4 +1,4 @@
-//! A repository in small, in which `plan` and `check` run.
+//! A repository in small, in which `plan`, `check` and `add` run.
 use crate::texts::LISTING;
 use crate::{assert_same, program, repository, run_command, sheet_of, Folder, Ran};
 use inputs::encode;
@@ -9,7 +9,7 @@ use std::process::Command;
 use std::thread::panicking;
 use std::time::{Duration, SystemTime};
 
-/// What both scripts share.
+/// What the scripts share.
 const SHARED: &str = "scripts/common.sh";
 
 /// A repository in small: the scripts, a source, built programs, and an `rt` that notes each call.
@@ -35,7 +35,7 @@ impl House {
             "tools/rt",
             &format!("echo \"$*\" >>'{}'", house.path("calls")),
         );
-        for name in ["plan", "check", SHARED] {
+        for name in ["plan", "check", "add", SHARED] {
             house.folder.put_copy(name, &repository().join(name));
         }
         for name in programs {

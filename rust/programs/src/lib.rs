@@ -21,7 +21,7 @@ pub use run::{
     as_nobody, program, run, run_as_nobody, run_command, run_without_input, start, Ran,
     UNREAD_INPUT,
 };
-pub use sheet::{assert_same, lists_of, sheet_of, text_of};
+pub use sheet::{assert_same, grown_of, lists_of, sheet_of, text_of, Files};
 
 use std::env;
 use std::path::{Path, PathBuf};

@@ -1,5 +1,5 @@
-//! `enter` and `lists` are ended at each of their calls of the system: the folder then has the old pair, the new pair, or no
-//! last file, without which the pair is refused.
+//! `enter`, `lists` and `adds` are ended at each of their calls of the system: the folder then has the old files, the new ones, or
+//! no last file, without which the others are refused.
 //!
 //! Where no process can be traced it fails, unless `FIBRE_PLAN_NO_TRACE` is set: then it says that it was not tried.
 use programs::{program, start, Folder, Pair, State};
@@ -79,8 +79,8 @@ fn not_tried() -> bool {
     told
 }
 
-/// From a folder with an old pair, which is then made ready, a program is ended at each of its calls: what is then in the
-/// folder is the old pair, from some call on no last file, and from some call on the new pair.
+/// From a folder with old files, which is then made ready, a program is ended at each of its calls: what is then in the
+/// folder is the old files, from some call on no last file, and from some call on the new ones.
 fn ended_at_each_call(pair: &Pair, ready: impl Fn(&Folder)) {
     if not_tried() {
         return;
@@ -93,14 +93,20 @@ fn ended_at_each_call(pair: &Pair, ready: impl Fn(&Folder)) {
         ready(&folder);
         let ended = run_until(calls, pair, &folder);
         let state = pair.state(&folder);
-        met.push(state.unwrap_or_else(|| panic!("{name}, ended at call {calls}: a mixed pair")));
+        let state = state.unwrap_or_else(|| panic!("{name}, ended at call {calls}: mixed files"));
+        met.push(state);
         if !ended {
             break;
         }
-        // What was left does not matter to the next run.
-        assert_eq!(pair.run(&folder), pair.out);
+        // What was left does not matter to the next run, but for a program that reads the files.
+        let (out, then) = pair.from(state);
+        assert_eq!(pair.run(&folder), out, "{name}, ended at call {calls}");
+        assert_eq!(pair.state(&folder), Some(then));
         let replaced = folder.entries() == pair.replaced();
-        assert!(replaced, "{name}, ended at call {calls}");
+        assert!(replaced || out != pair.out, "{name}, ended at call {calls}");
+        // Where there is no last file, the drafts are whole: under their names they are the new files.
+        pair.finish(&folder);
+        assert!(state != State::Refused || pair.state(&folder) == Some(State::New));
     }
     assert!(
         met.len() > 1,
@@ -113,15 +119,15 @@ fn ended_at_each_call(pair: &Pair, ready: impl Fn(&Folder)) {
 }
 
 #[test]
-fn at_every_moment_the_old_pair_or_the_new_or_none() {
-    for pair in Pair::listings() {
+fn at_every_moment_the_old_files_or_the_new_or_none() {
+    for pair in Pair::all() {
         ended_at_each_call(&pair, |_| ());
     }
 }
 
 #[test]
 fn the_same_with_a_hard_link_to_the_last_file_at_the_name_of_the_old_one() {
-    for pair in Pair::listings() {
+    for pair in Pair::all() {
         ended_at_each_call(&pair, |folder| {
             fs::hard_link(folder.at(pair.last()), folder.at(&pair.old_last())).unwrap();
         });

@@ -1,10 +1,10 @@
-//! How `enter` and `lists` replace their pairs of files: whatever stands in their way, the folder has the old pair or the new.
+//! How `enter`, `lists` and `adds` replace their files: whatever stands in their way, the folder has the old ones or the new.
 use programs::{run_as_nobody, run_command, Folder, Pair, State};
 use std::fs;
 use std::os::unix::fs::symlink;
 use std::path::Path;
 
-/// The program runs in the folder, which then has the new pair and nothing else besides what was read.
+/// The program runs in the folder, which then has the new files and nothing else besides what was read.
 #[track_caller]
 fn replaces(pair: &Pair, folder: &Folder, what: &str) {
     assert_eq!(pair.run(folder), pair.out, "{}, {what}", pair.program);
@@ -19,10 +19,11 @@ fn elsewhere() -> Folder {
 
 #[test]
 fn the_files_are_made_or_replaced() {
-    for pair in Pair::listings().iter().chain(&Pair::large()) {
+    for pair in Pair::all().iter().chain(&Pair::large()) {
         for folder in pair.starts() {
             replaces(pair, &folder, "new or old");
-            replaces(pair, &folder, "again");
+            assert_eq!(pair.run(&folder), pair.from(State::New).0);
+            assert!(folder.entries() == pair.replaced(), "again");
         }
     }
 }
@@ -40,7 +41,7 @@ fn one_of_the_files_alone() {
 
 #[test]
 fn a_link_at_a_draft_is_not_followed() {
-    for pair in Pair::listings() {
+    for pair in Pair::all() {
         for draft in pair.drafts() {
             for there in [true, false] {
                 let elsewhere = if there { elsewhere() } else { Folder::new() };
@@ -55,7 +56,7 @@ fn a_link_at_a_draft_is_not_followed() {
 
 #[test]
 fn old_drafts_do_not_matter() {
-    for pair in Pair::listings() {
+    for pair in Pair::all() {
         let folder = pair.with_old();
         for draft in pair.drafts() {
             folder.put(&draft, &[7; 20_000]);
@@ -66,8 +67,8 @@ fn old_drafts_do_not_matter() {
 
 #[test]
 fn a_link_in_place_of_a_file_is_replaced() {
-    for pair in Pair::listings() {
-        for name in [pair.first(), pair.last()] {
+    for pair in Pair::all() {
+        for name in pair.names() {
             let (folder, elsewhere) = (pair.with_old(), pair.with_old());
             let before = elsewhere.entries();
             fs::remove_file(folder.at(name)).unwrap();
@@ -106,7 +107,7 @@ const THE_LAST_ITSELF: (&str, Puts) = ("a hard link to the last file", |at, _| {
 
 #[test]
 fn what_stands_at_the_name_of_the_old_last_file_goes() {
-    for pair in Pair::listings() {
+    for pair in Pair::all() {
         for (what, puts) in AT_OLD_LAST {
             for folder in pair.starts() {
                 let elsewhere = elsewhere();
@@ -141,7 +142,7 @@ fn a_failure_brings_the_last_file_back_whatever_stood_at_the_name_of_the_old_one
 
 #[test]
 fn a_folder_at_the_name_of_the_old_last_file() {
-    for pair in Pair::listings() {
+    for pair in Pair::all() {
         for inner in ["", "/inner"] {
             let folder = pair.with_old();
             folder.put_folder(&format!("{}{inner}", pair.old_last()));
@@ -172,7 +173,7 @@ fn a_folder_in_place_of_the_first_file() {
 
 #[test]
 fn a_folder_in_place_of_a_draft() {
-    for pair in Pair::listings() {
+    for pair in Pair::all() {
         for draft in pair.drafts() {
             let folder = pair.with_old();
             folder.put_folder(&draft);
@@ -185,7 +186,7 @@ fn a_folder_in_place_of_a_draft() {
 
 #[test]
 fn a_folder_that_may_not_be_written() {
-    for pair in Pair::listings() {
+    for pair in Pair::all() {
         for folder in pair.starts() {
             folder.allow("", 0o555);
             let before = folder.entries();
@@ -210,7 +211,7 @@ fn a_disk_that_is_full() {
 }
 
 #[test]
-fn an_end_in_the_middle_leaves_the_old_pair() {
+fn an_end_in_the_middle_leaves_the_old_files() {
     for pair in Pair::large() {
         let folder = pair.with_old();
         let before = folder.entries();

@@ -23,15 +23,39 @@ pub enum Finding {
 }
 
 /// A plan to be checked: what stands in its three lists.
-struct Plan {
+pub(crate) struct Plan {
     line: Line,
-    circuits: Vec<Circuit>,
-    fibres: Vec<(usize, Fibre)>,
-    assignments: Vec<(u32, Place)>,
+    pub circuits: Vec<Circuit>,
+    /// Each fibre with its number.
+    pub fibres: Vec<(usize, Fibre)>,
+    /// Each circuit number with its place.
+    pub assignments: Vec<(u32, Place)>,
     slip: Slip,
 }
 
 impl Plan {
+    /// The plan that two lists of whole records hold for some circuits.
+    pub fn read(
+        line: Line,
+        circuits: Vec<Circuit>,
+        fibres: &[u8],
+        assignments: &[u8],
+        slip: Slip,
+    ) -> Self {
+        Self {
+            line,
+            circuits,
+            fibres: fibres.chunks(8).map(records::fibre).collect(),
+            assignments: assignments.chunks(8).map(records::assignment).collect(),
+            slip,
+        }
+    }
+
+    /// Whether it breaks no rule.
+    pub fn is_sound(&self) -> bool {
+        self.fault().is_none()
+    }
+
     /// Whether the fibre at an index breaks rule 1 or 2.
     fn fibre_breaks(&self, at: usize, rule: u32) -> bool {
         let (number, fibre) = &self.fibres[at];
@@ -179,12 +203,5 @@ pub fn check_with(
     }
     let circuits = table::accepted_circuits(line, circuits, slip)?;
     lists?;
-    let plan = Plan {
-        line,
-        circuits,
-        fibres: fibres.chunks(8).map(records::fibre).collect(),
-        assignments: assignments.chunks(8).map(records::assignment).collect(),
-        slip,
-    };
-    Ok(plan.finding())
+    Ok(Plan::read(line, circuits, fibres, assignments, slip).finding())
 }

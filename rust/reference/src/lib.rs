@@ -3,6 +3,7 @@
 //! It follows the papers sentence by sentence and does not try to be fast.
 #![deny(missing_docs)]
 
+mod add;
 mod check;
 mod grid;
 mod lit;
@@ -13,6 +14,9 @@ mod slips;
 mod table;
 
 #[doc(hidden)]
+pub use add::add_with;
+pub use add::{add, Old};
+#[doc(hidden)]
 pub use check::check_with;
 pub use check::{check, Finding};
 pub use grid::frequency;
@@ -20,7 +24,7 @@ pub use lit::lit;
 pub use paired::paired;
 pub use records::Circuit;
 #[doc(hidden)]
-pub use slips::{Slip, BASE_SLIPS, CHECK_SLIPS, END_SLIPS, GRID_SLIPS, LIT_SLIPS};
+pub use slips::{Slip, ADD_SLIPS, BASE_SLIPS, CHECK_SLIPS, END_SLIPS, GRID_SLIPS, LIT_SLIPS};
 
 use std::ops::RangeInclusive;
 
@@ -122,6 +126,11 @@ fn runs(n: usize, p: impl Fn(usize) -> bool) -> Vec<RangeInclusive<usize>> {
     found
 }
 
+/// The plan of R-1, where link i needs c(i).
+fn lit_plan(n: usize, w: usize, circuits: &[Circuit], c: &[usize], slip: Slip) -> Plan {
+    lit(n, circuits, &paired(n, w, circuits, c, slip), slip)
+}
+
 /// Plans the circuit records on lent areas.
 ///
 /// # Errors
@@ -155,7 +164,7 @@ pub fn plan_with(
     let circuits = table::accepted(line, circuits, lengths, slip)?;
     let Line { n, w, .. } = line;
     let c = needs(n, w, &circuits, slip);
-    let plan = lit(n, &circuits, &paired(n, w, &circuits, &c, slip), slip);
+    let plan = lit_plan(n, w, &circuits, &c, slip);
 
     for (i, fibre) in plan.fibres.iter().enumerate() {
         records::put(fibres, i, fibre.record(i + 1));

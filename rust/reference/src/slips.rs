@@ -73,6 +73,68 @@ pub enum Slip {
     ClashWithoutOverlap,
     /// Rule 8 has the place of the earlier one.
     EarlierOfTwo,
+    /// A new circuit gets the highest wavelength that is free on its fibre.
+    HighestWavelength,
+    /// The first fibre that spans a new circuit is taken, and if no wavelength is free there, none.
+    FirstThatSpans,
+    /// Of the free places the one with the lowest wavelength is taken, then the lowest fibre.
+    LowestWavelengthOfAll,
+    /// A wavelength that a circuit has somewhere on a fibre is free nowhere on it.
+    WholeFibreTaken,
+    /// What the old circuits have counts as free.
+    OldNotSeen,
+    /// New circuits take their turns in file order.
+    TurnsByPlace,
+    /// New circuits take their turns by falling number.
+    TurnsFalling,
+    /// Those that are left are planned one by one.
+    OneByOne,
+    /// The layers of added fibres run on from the old ones.
+    LayersCountedOn,
+    /// Added fibres are numbered from 1.
+    NumberedFromOne,
+    /// The new assignments are written by rising number.
+    WrittenByNumber,
+    /// The old fibres get layer 1.
+    OldLayersChanged,
+    /// Only so much of the work area is zeroed as the new file asks for.
+    WorkOfNewFile,
+    /// The floor is that of the new file.
+    FloorOfNewFile,
+    /// Number and total of the fibres are those of the added ones.
+    NumbersOfNewFibres,
+    /// Test 1 is of both files joined.
+    OneOfJoinedFile,
+    /// Test 2 is of each file.
+    TwoOfEachFile,
+    /// Tests 5, 6 and 7 are those of the old file, then those of the new one.
+    FileByFile,
+    /// Test 7 is of both files joined.
+    SevenOfJoinedFile,
+    /// Test 7 is of the new file, then of the old one.
+    SevenOfNewFileFirst,
+    /// The places of 5, 6 and 7 in the new file count from 1.
+    PlacesFromOne,
+    /// The place of 14 counts from 1.
+    FourteenFromOne,
+    /// Test 8 asks for 8 bytes for each old fibre and for each circuit of both files.
+    RoomForOldCircuits,
+    /// The bytes that 8 and 9 ask for are counted in a machine word, which wraps around.
+    RoomWraps,
+    /// Test 10 counts the new file only.
+    TenOfNewFile,
+    /// How many old assignments are named does not matter.
+    NamedAssignmentsIgnored,
+    /// 2,048 old fibres are too many.
+    OneOldFibreLess,
+    /// 2,049 old fibres are not too many.
+    OneOldFibreMore,
+    /// Test 13 comes before test 10.
+    ThirteenBeforeTen,
+    /// Test 14 comes before test 13.
+    FourteenBeforeThirteen,
+    /// Test 14 comes before test 8.
+    FourteenBeforeEight,
 }
 
 /// The mistakes with the base.
@@ -120,4 +182,39 @@ pub const CHECK_SLIPS: [Slip; 13] = [
     Slip::OneWavelengthMore,
     Slip::ClashWithoutOverlap,
     Slip::EarlierOfTwo,
+];
+
+/// The mistakes with R-2.
+pub const ADD_SLIPS: [Slip; 31] = [
+    Slip::HighestWavelength,
+    Slip::FirstThatSpans,
+    Slip::LowestWavelengthOfAll,
+    Slip::WholeFibreTaken,
+    Slip::OldNotSeen,
+    Slip::TurnsByPlace,
+    Slip::TurnsFalling,
+    Slip::OneByOne,
+    Slip::LayersCountedOn,
+    Slip::NumberedFromOne,
+    Slip::WrittenByNumber,
+    Slip::OldLayersChanged,
+    Slip::WorkOfNewFile,
+    Slip::FloorOfNewFile,
+    Slip::NumbersOfNewFibres,
+    Slip::OneOfJoinedFile,
+    Slip::TwoOfEachFile,
+    Slip::FileByFile,
+    Slip::SevenOfJoinedFile,
+    Slip::SevenOfNewFileFirst,
+    Slip::PlacesFromOne,
+    Slip::FourteenFromOne,
+    Slip::RoomForOldCircuits,
+    Slip::RoomWraps,
+    Slip::TenOfNewFile,
+    Slip::NamedAssignmentsIgnored,
+    Slip::OneOldFibreLess,
+    Slip::OneOldFibreMore,
+    Slip::ThirteenBeforeTen,
+    Slip::FourteenBeforeThirteen,
+    Slip::FourteenBeforeEight,
 ];

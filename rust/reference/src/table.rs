@@ -1,7 +1,8 @@
-//! The table of refusals.
+//! The tables of refusals.
+use crate::check::Plan;
 use crate::grid::limit;
 use crate::records::Circuit;
-use crate::{Line, Refused, Slip};
+use crate::{Line, Old, Refused, Slip};
 use std::collections::HashSet;
 
 /// A refusal that applies as a whole.
@@ -73,16 +74,26 @@ fn accepted_line(line: Line, slip: Slip) -> Result<(), Refused> {
     }
 }
 
+/// Test 7.
+fn accepted_repeats(circuits: &[Circuit]) -> Result<(), Refused> {
+    let mut seen = HashSet::new();
+    unless_bad(circuits, 7, |c| !seen.insert(c.number))
+}
+
+/// Tests 5, 6 and 7.
+fn accepted_records(n: usize, circuits: &[Circuit], slip: Slip) -> Result<(), Refused> {
+    accepted_numbers(circuits, slip)?;
+    accepted_ends(n, circuits, slip)?;
+    accepted_repeats(circuits)
+}
+
 /// The circuits of a file that none of the tests 1 to 7 and 12 refuses.
 pub fn accepted_circuits(line: Line, file: &[u8], slip: Slip) -> Result<Vec<Circuit>, Refused> {
     unless(file.len().is_multiple_of(8), 1)?;
     unless(file.len() / 8 <= 2048, 2)?;
     accepted_line(line, slip)?;
     let circuits: Vec<Circuit> = file.chunks(8).map(Circuit::read).collect();
-    accepted_numbers(&circuits, slip)?;
-    accepted_ends(line.n, &circuits, slip)?;
-    let mut seen = HashSet::new();
-    unless_bad(&circuits, 7, |c| !seen.insert(c.number))?;
+    accepted_records(line.n, &circuits, slip)?;
     Ok(circuits)
 }
 
@@ -121,4 +132,137 @@ pub fn accepted_lists(fibres: &[u8], assignments: &[u8], slip: Slip) -> Result<(
         Slip::AssignmentListFirst => two.and(one),
         _ => one.and(two),
     }
+}
+
+/// A refusal's place, counted on from so many records.
+fn counted_on(result: Result<(), Refused>, before: usize) -> Result<(), Refused> {
+    result.map_err(|refused| Refused {
+        place: before + refused.place,
+        ..refused
+    })
+}
+
+/// Tests 5, 6 and 7 of an old and a new file: 5 and 6 are of both, 7 is within each, the old first; places count on.
+fn accepted_two(n: usize, [old, new]: [&[Circuit]; 2], slip: Slip) -> Result<(), Refused> {
+    let both = [old, new].concat();
+    let before = old.len();
+    if slip == Slip::FileByFile {
+        accepted_records(n, old, slip)?;
+        return counted_on(accepted_records(n, new, slip), before);
+    }
+    accepted_numbers(&both, slip)?;
+    accepted_ends(n, &both, slip)?;
+    let of_old = accepted_repeats(old);
+    let of_new = counted_on(accepted_repeats(new), before);
+    match slip {
+        Slip::SevenOfJoinedFile => accepted_repeats(&both),
+        Slip::SevenOfNewFileFirst => of_new.and(of_old),
+        _ => of_old.and(of_new),
+    }
+}
+
+/// The refusal as a mistake may have it: a place in the new file counts from 1.
+fn from_one(refused: Refused, old: usize, slip: Slip) -> Refused {
+    match refused.place.checked_sub(old) {
+        Some(place @ 1..) if slip == Slip::PlacesFromOne => Refused { place, ..refused },
+        _ => refused,
+    }
+}
+
+/// The circuits of an old and a new file that none of the tests 1 to 7 and 12 refuses.
+fn accepted_files(line: Line, files: [&[u8]; 2], slip: Slip) -> Result<[Vec<Circuit>; 2], Refused> {
+    let [old, new] = files.map(<[u8]>::len);
+    let whole = |bytes: usize| unless(bytes.is_multiple_of(8), 1);
+    match slip {
+        Slip::OneOfJoinedFile => whole(old + new)?,
+        _ => whole(old).and(whole(new))?,
+    }
+    let counted = match slip {
+        Slip::TwoOfEachFile => (old / 8).max(new / 8),
+        _ => old / 8 + new / 8,
+    };
+    unless(counted <= 2048, 2)?;
+    accepted_line(line, slip)?;
+    let circuits = files.map(|file| file.chunks_exact(8).map(Circuit::read).collect());
+    let [old, new]: &[Vec<Circuit>; 2] = &circuits;
+    accepted_two(line.n, [old, new], slip).map_err(|r| from_one(r, old.len(), slip))?;
+    Ok(circuits)
+}
+
+/// Whether a list of so many bytes has room for the records that are named and for others.
+fn has_room(bytes: usize, named: usize, others: usize, slip: Slip) -> bool {
+    match slip {
+        Slip::RoomWraps => named.wrapping_add(others).wrapping_mul(8) <= bytes,
+        _ => 8 * (named as u128 + others as u128) <= bytes as u128,
+    }
+}
+
+/// Test 14: the first new record whose number the old file has.
+fn accepted_new([old, new]: [&[Circuit]; 2], slip: Slip) -> Result<(), Refused> {
+    let numbers: HashSet<u32> = old.iter().map(|c| c.number).collect();
+    let fourteen = unless_bad(new, 14, |c| numbers.contains(&c.number));
+    let before = match slip {
+        Slip::FourteenFromOne => 0,
+        _ => old.len(),
+    };
+    counted_on(fourteen, before)
+}
+
+/// Test 13: the old plan, which stands at the start of the two lists.
+fn accepted_old(
+    line: Line,
+    circuits: &[Circuit],
+    old: Old,
+    [fibres, assignments]: [&[u8]; 2],
+    slip: Slip,
+) -> Result<Plan, Refused> {
+    let most = match slip {
+        Slip::OneOldFibreLess => 2047,
+        Slip::OneOldFibreMore => 2049,
+        _ => 2048,
+    };
+    unless(old.fibres <= most, 13)?;
+    unless(old.assignments == circuits.len(), 13)?;
+    let fibres = &fibres[..8 * old.fibres];
+    let assignments = &assignments[..8 * old.assignments];
+    let plan = Plan::read(line, circuits.to_vec(), fibres, assignments, slip);
+    unless(plan.is_sound(), 13)?;
+    Ok(plan)
+}
+
+/// The old plan and the new circuits that no test of an addition refuses; the lent areas are only looked at.
+pub fn accepted_addition(
+    line: Line,
+    old: Old,
+    added: &[u8],
+    [fibres, assignments, work]: [&[u8]; 3],
+    slip: Slip,
+) -> Result<(Plan, Vec<Circuit>), Refused> {
+    let [circuits, new] = accepted_files(line, [old.circuits, added], slip)?;
+    let fourteen = accepted_new([&circuits, &new], slip);
+    if slip == Slip::FourteenBeforeEight {
+        fourteen?;
+    }
+    let asked = match slip {
+        Slip::RoomForOldCircuits => circuits.len() + new.len(),
+        _ => new.len(),
+    };
+    unless(has_room(fibres.len(), old.fibres, asked, slip), 8)?;
+    let assignment_room = has_room(assignments.len(), old.assignments, new.len(), slip);
+    unless(assignment_room, 9)?;
+    let thirteen = accepted_old(line, &circuits, old, [fibres, assignments], slip);
+    if slip == Slip::ThirteenBeforeTen {
+        thirteen.as_ref().map_err(|refused| *refused)?;
+    }
+    let counted = match slip {
+        Slip::TenOfNewFile => new.len(),
+        _ => circuits.len() + new.len(),
+    };
+    unless(work.len() >= 4 * line.n + 4 * counted, 10)?;
+    if slip == Slip::FourteenBeforeThirteen {
+        fourteen?;
+    }
+    let plan = thirteen?;
+    fourteen?;
+    Ok((plan, new))
 }

@@ -16,7 +16,7 @@ pub struct Circuit {
     pub first: u16,
     pub last: u16,
     /// Its place in the file, counted from 0.
-    place: u16,
+    pub place: u16,
 }
 
 impl Circuit {
@@ -26,14 +26,14 @@ impl Circuit {
     }
 
     /// Its place, to index with.
-    fn at(&self) -> usize {
+    pub fn at(&self) -> usize {
         usize::from(self.place)
     }
 }
 
-struct Fibre {
-    first: usize,
-    last: usize,
+pub struct Fibre {
+    pub first: usize,
+    pub last: usize,
     layer: usize,
 }
 
@@ -50,8 +50,14 @@ pub fn unless(holds: bool, number: u32) -> Result<(), Refused> {
     holds.then_some(()).ok_or((number, 0, 0))
 }
 
-fn unless_at(found: Option<usize>, number: u32) -> Result<(), Refused> {
+pub fn unless_at(found: Option<usize>, number: u32) -> Result<(), Refused> {
     found.map_or(Ok(()), |at| Err((number, at + 1, 0)))
+}
+
+/// The circuits of a file.
+pub fn read_circuits(file: &[u8]) -> Vec<Circuit> {
+    let records = file.chunks_exact(8).enumerate();
+    records.map(|(j, record)| read(j, record)).collect()
 }
 
 fn read(place: usize, record: &[u8]) -> Circuit {
@@ -64,10 +70,11 @@ fn read(place: usize, record: &[u8]) -> Circuit {
     }
 }
 
-/// The first circuit that repeats an earlier one's number.
-fn repeated(circuits: &[Circuit]) -> Option<usize> {
+/// The numbers of circuits, or the first that repeats an earlier one's.
+pub fn numbers(circuits: &[Circuit]) -> Result<HashSet<u32>, usize> {
     let mut seen = HashSet::with_capacity(circuits.len());
-    circuits.iter().position(|c| !seen.insert(c.number))
+    let repeated = circuits.iter().position(|c| !seen.insert(c.number));
+    repeated.map_or(Ok(seen), Err)
 }
 
 /// What is wrong with the ends of a circuit, or 0.
@@ -85,10 +92,18 @@ fn wrong_end(n: usize, circuit: &Circuit) -> u32 {
 }
 
 /// Test 6.
-fn accepted_ends(n: usize, circuits: &[Circuit]) -> Result<(), Refused> {
+pub fn accepted_ends(n: usize, circuits: &[Circuit]) -> Result<(), Refused> {
     let wrong = |(j, c): (usize, &Circuit)| (6, j + 1, wrong_end(n, c));
     let mut ends = circuits.iter().enumerate().map(wrong);
     ends.find(|(.., end)| *end != 0).map_or(Ok(()), Err)
+}
+
+/// Tests 3, 12 and 4.
+pub fn accepted_line(n: usize, w: usize, grid: usize) -> Result<(), Refused> {
+    unless((1..=512).contains(&n), 3)?;
+    unless(grid == 1 || grid == 2, 12)?;
+    let limit = if grid == 2 { 80 } else { 40 };
+    unless((1..=limit).contains(&w), 4)
 }
 
 /// The circuits of a file that none of the tests 1 to 7 and 12 refuses.
@@ -101,15 +116,11 @@ pub fn accepted_circuits(
     let m = file.len() / 8;
     unless(file.len().is_multiple_of(8), 1)?;
     unless(m <= 2048, 2)?;
-    unless((1..=512).contains(&n), 3)?;
-    unless(grid == 1 || grid == 2, 12)?;
-    let limit = if grid == 2 { 80 } else { 40 };
-    unless((1..=limit).contains(&w), 4)?;
-    let records = file.chunks_exact(8).enumerate();
-    let circuits: Vec<Circuit> = records.map(|(j, record)| read(j, record)).collect();
+    accepted_line(n, w, grid)?;
+    let circuits = read_circuits(file);
     unless_at(circuits.iter().position(|c| c.number == 0), 5)?;
     accepted_ends(n, &circuits)?;
-    unless_at(repeated(&circuits), 7)?;
+    unless_at(numbers(&circuits).err(), 7)?;
     Ok(circuits)
 }
 
@@ -278,17 +289,54 @@ fn light(circuits: &[Circuit], old: &[usize], pairs: &[Fibre]) -> (Vec<Fibre>, V
 }
 
 /// Writes record i of a list, counted from 0.
-fn put(list: &mut [u8], i: usize, fields: [u16; 4]) {
+pub fn put(list: &mut [u8], i: usize, fields: [u16; 4]) {
     let record = list[8 * i..8 * i + 8].chunks_exact_mut(2);
     for (bytes, field) in record.zip(fields) {
         bytes.copy_from_slice(&field.to_le_bytes());
     }
 }
 
-fn write_fibres(list: &mut [u8], fibres: &[Fibre]) {
-    for (i, f) in fibres.iter().enumerate() {
+/// Writes fibres behind so many others.
+pub fn write_fibres(list: &mut [u8], before: usize, fibres: &[Fibre]) {
+    for (i, f) in (before..).zip(fibres) {
         let fields = [i + 1, f.first, f.last, f.layer];
         put(list, i, fields.map(|x| x as u16));
+    }
+}
+
+/// Writes the assignment of a circuit as record i of a list.
+pub fn write_assignment(list: &mut [u8], i: usize, circuit: &Circuit, fibre: u16, wavelength: u16) {
+    let halves = [circuit.number as u16, (circuit.number >> 16) as u16];
+    put(list, i, [halves[0], halves[1], fibre, wavelength]);
+}
+
+/// A plan: its fibres, and the number of each circuit's fibre and its wavelength, in file order.
+pub struct Plan {
+    pub fibres: Vec<Fibre>,
+    numbers: Vec<usize>,
+    rows: Vec<usize>,
+    w: usize,
+}
+
+impl Plan {
+    /// Fibre number and wavelength of a circuit.
+    pub fn place(&self, at: usize) -> (usize, usize) {
+        (self.numbers[at], (self.rows[at] - 1) % self.w + 1)
+    }
+}
+
+/// Plans circuits, where link i needs c(i).
+pub fn settle(w: usize, circuits: &[Circuit], c: &[usize]) -> Plan {
+    let top = c.iter().copied().max().unwrap_or(0);
+    let rows = fill_sheet(w, circuits, c, top);
+    let (pairs, starts) = pairs(c, top);
+    let old = old_fibres(w, circuits, &rows, (&pairs, &starts));
+    let (fibres, numbers) = light(circuits, &old, &pairs);
+    Plan {
+        fibres,
+        numbers,
+        rows,
+        w,
     }
 }
 
@@ -305,23 +353,19 @@ pub fn plan(
     let lengths = [fibres.len(), assignments.len(), work.len()];
     let circuits = accepted(n, w, grid, file, lengths)?;
     let c = needs(n, w, &circuits);
-    let top = c.iter().copied().max().unwrap_or(0);
-    let rows = fill_sheet(w, &circuits, &c, top);
-    let (pairs, starts) = pairs(&c, top);
-    let old = old_fibres(w, &circuits, &rows, (&pairs, &starts));
-    let (lit, numbers) = light(&circuits, &old, &pairs);
-    write_fibres(fibres, &lit);
+    let plan = settle(w, &circuits, &c);
+    write_fibres(fibres, 0, &plan.fibres);
     for circuit in &circuits {
-        let wavelength = (rows[circuit.at()] - 1) % w + 1;
-        let halves = [circuit.number as u16, (circuit.number >> 16) as u16];
-        let place = [numbers[circuit.at()], wavelength].map(|x| x as u16);
-        put(
+        let (fibre, wavelength) = plan.place(circuit.at());
+        write_assignment(
             assignments,
             circuit.at(),
-            [halves[0], halves[1], place[0], place[1]],
+            circuit,
+            fibre as u16,
+            wavelength as u16,
         );
     }
     work[..4 * n + 4 * circuits.len()].fill(0);
-    let total = lit.iter().map(|f| f.last - f.first + 1).sum();
-    Ok([lit.len(), total, c.iter().sum()])
+    let total = plan.fibres.iter().map(|f| f.last - f.first + 1).sum();
+    Ok([plan.fibres.len(), total, c.iter().sum()])
 }

@@ -8,7 +8,7 @@ use inputs::{encode, Family, Numbers, Rng};
 use std::hint::black_box;
 
 /// The grid of every case: it has all wavelengths that are tried, and a plan does not depend on it otherwise.
-const GRID: usize = 1;
+pub const GRID: usize = 1;
 
 /// A file of circuits, and the line and the fibres that it is for.
 #[derive(Clone, Copy)]
@@ -85,14 +85,14 @@ impl Times {
 }
 
 #[derive(Clone, PartialEq)]
-struct Areas {
-    fibres: Vec<u8>,
-    assignments: Vec<u8>,
-    work: Vec<u8>,
+pub struct Areas {
+    pub fibres: Vec<u8>,
+    pub assignments: Vec<u8>,
+    pub work: Vec<u8>,
 }
 
 impl Areas {
-    fn new(case: &Case) -> Self {
+    pub fn new(case: &Case) -> Self {
         let m = case.circuits;
         Self {
             fibres: vec![0; fibre_plan::fibre_bytes(m)],
@@ -102,7 +102,7 @@ impl Areas {
     }
 
     /// Overwrites all areas, so that each call starts from the same bytes, in the cache.
-    fn fill(&mut self) {
+    pub fn fill(&mut self) {
         self.fibres.fill(0xA5);
         self.assignments.fill(0xA5);
         self.work.fill(0xA5);
@@ -161,7 +161,7 @@ const CHECKS: [Check; 3] = [
 ];
 
 impl Case {
-    fn file(&self) -> Vec<u8> {
+    pub fn file(&self) -> Vec<u8> {
         let mut rng = Rng::new(1);
         encode(
             &self
@@ -170,7 +170,7 @@ impl Case {
         )
     }
 
-    fn ours(&self, file: &[u8], to: &mut Areas) -> baseline::Answer {
+    pub fn ours(&self, file: &[u8], to: &mut Areas) -> baseline::Answer {
         let Areas {
             fibres,
             assignments,

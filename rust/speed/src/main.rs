@@ -1,11 +1,13 @@
-//! Times of the proved planner and of the proved check beside those of the same in plain Rust, as Markdown.
+//! Times of the proved planner, additions and check beside those of the same in plain Rust, as Markdown.
 //!
 //! `speed [ROUNDS]`: the best of so many rounds is taken, 7 if none is named. Where `FIBRE_PLAN_BEFORE` names another
 //! archive, that one is measured too.
+mod addition;
 mod baseline;
 mod before;
 mod case;
 mod clock;
+mod plain_add;
 mod plain_check;
 
 use before::Before;
@@ -16,6 +18,8 @@ use std::env;
 const LINKS: usize = 512;
 const CIRCUITS: usize = 2048;
 const WAVELENGTHS: [usize; 4] = [1, 4, 16, 40];
+/// How many of the circuits are old where the others are added.
+const OLD: [usize; 2] = [1024, 1920];
 const NUMBERS: [Numbers; 2] = [Numbers::Rising, Numbers::Shuffled];
 
 /// The cases at full size.
@@ -81,7 +85,7 @@ fn groups() -> Vec<(String, Chosen)> {
 }
 
 /// A line for each group of cases, with the mean and the worst of each of some ratios.
-fn print_ratios(measured: &[(Case, Times)], ratios: &[fn(&Times) -> f64]) {
+fn print_ratios<T>(measured: &[(Case, T)], ratios: &[fn(&T) -> f64]) {
     for (name, chosen) in groups() {
         let times = || measured.iter().filter(|(case, _)| chosen(case));
         print!("| {name} |");
@@ -110,7 +114,7 @@ fn print_before(measured: &[(Case, Times)]) {
 }
 
 /// The least and the greatest of some times.
-fn range(measured: &[(Case, Times)], time: fn(&Times) -> f64) -> String {
+fn range<T>(measured: &[(Case, T)], time: fn(&T) -> f64) -> String {
     let times = || measured.iter().map(|(_, times)| time(times));
     let (least, greatest) = (
         times().fold(f64::MAX, f64::min),
@@ -133,6 +137,32 @@ fn print_checks(measured: &[(Case, Times)]) {
         range(measured, |times| times.check),
         range(measured, |times| times.sorting_check),
         range(measured, |times| times.hashing_check)
+    );
+}
+
+/// Our time for an addition over that of plain Rust, which finds places in two ways.
+fn print_additions(old: usize, rounds: usize) {
+    let measure = |case: Case| (case, addition::measure(&case, old, rounds));
+    let measured: Vec<(Case, addition::Times)> = full_size().into_iter().map(measure).collect();
+    println!(
+        "### {} circuits added to {old}: ours over plain Rust's\n",
+        CIRCUITS - old
+    );
+    let ratios: [fn(&addition::Times) -> f64; 3] = [
+        addition::Times::ratio_to_lists,
+        addition::Times::ratio_to_hashing,
+        addition::Times::ratio_to_faster,
+    ];
+    let names = ["with lists", "with a `HashMap`", "the faster of the two"];
+    let columns = names.map(|name| format!(" {name}, geometric mean | worst |"));
+    println!("| cases |{}", columns.concat());
+    println!("|---|{}", "---:|---:|".repeat(names.len()));
+    print_ratios(&measured, &ratios);
+    println!(
+        "\nOurs {}; with lists {}; with a `HashMap` {}.",
+        range(&measured, |times| times.ours),
+        range(&measured, |times| times.lists),
+        range(&measured, |times| times.hashing)
     );
 }
 
@@ -177,6 +207,10 @@ fn main() {
     print_cases(&measured);
     println!();
     print_checks(&measured);
+    for old in OLD {
+        println!();
+        print_additions(old, rounds);
+    }
     println!("\n### Growth: ours in µs, and the ratio; numbers shuffled, w = 4\n");
     print_growth(
         &[16, 128, 512, 2048].map(|circuits| (LINKS, circuits)),

@@ -8,16 +8,22 @@ pub type Found = Result<[usize; 2], (u32, usize)>;
 /// What a check answers.
 pub type Answer = Result<Found, Refused>;
 
-struct Fibre {
+pub struct Fibre {
     number: u16,
-    first: u16,
-    last: u16,
+    pub first: u16,
+    pub last: u16,
+}
+
+impl Fibre {
+    pub fn length(&self) -> usize {
+        usize::from(self.last - self.first) + 1
+    }
 }
 
 pub struct Assignment {
     circuit: u32,
-    fibre: u16,
-    wavelength: u16,
+    pub fibre: u16,
+    pub wavelength: u16,
 }
 
 /// The number in two bytes of a record.
@@ -31,7 +37,7 @@ fn accepted_list(list: &[u8], most: usize, place: usize) -> Result<(), Refused> 
     unless(whole, 16).map_err(|(number, _, end)| (number, place, end))
 }
 
-fn read_fibres(list: &[u8]) -> Vec<Fibre> {
+pub fn read_fibres(list: &[u8]) -> Vec<Fibre> {
     let read = |record: &[u8]| Fibre {
         number: two(record, 0),
         first: two(record, 2),
@@ -40,7 +46,7 @@ fn read_fibres(list: &[u8]) -> Vec<Fibre> {
     list.chunks_exact(8).map(read).collect()
 }
 
-fn read_assignments(list: &[u8]) -> Vec<Assignment> {
+pub fn read_assignments(list: &[u8]) -> Vec<Assignment> {
     let read = |record: &[u8]| Assignment {
         circuit: u32::from_le_bytes([record[0], record[1], record[2], record[3]]),
         fibre: two(record, 4),
@@ -124,7 +130,7 @@ pub fn by_sorting(circuits: &[Circuit], assignments: &[Assignment]) -> Option<us
 }
 
 /// The first broken rule and its place, if any.
-fn fault(
+pub fn fault(
     (n, w): (usize, usize),
     circuits: &[Circuit],
     fibres: &[Fibre],
@@ -163,7 +169,6 @@ pub fn check(
     if let Some(fault) = fault((n, w), &circuits, &fibres, &assignments, first_clash) {
         return Ok(Err(fault));
     }
-    let length = |f: &Fibre| usize::from(f.last - f.first) + 1;
-    let total = fibres.iter().map(length).sum();
+    let total = fibres.iter().map(Fibre::length).sum();
     Ok(Ok([total, needs(n, w, &circuits).iter().sum()]))
 }

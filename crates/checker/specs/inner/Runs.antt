@@ -1,20 +1,12 @@
--- What the runs through the places come to, and the rules of records that are read from bytes. Contracts inside the crate.
+-- The rules of records that are read from bytes. Contracts inside the crate.
 -- Assumes nothing.
 use Prim.Native.Nat.{ℕ, _-_}
 use mathlib.Core.List.{List}
-use mathlib.Core.Option.{Option, none, some}
 use Rattle.records.specs.Records.{recordAt, circuitOf, assignmentOf}
 use Rattle.records.specs.declared.Circuit.{Circuit}
 use Rattle.records.specs.declared.AssignmentRecord.{AssignmentRecord}
-use Rattle.checker.specs.Rules.{Rule, Breach, ownRules, fibreAt}
+use Rattle.checker.specs.Rules.{Rule, ownRules, fibreAt}
 use Rattle.checker.specs.Checked.{fibresIn}
-use Rattle.checker.specs.declared.rules.Fault.{Fault}
-use Rattle.checker.specs.declared.rules.Fault.the-variants.{Nothing, Broken}
-
--- a breach as an enum
-abbrev pub faultOf : Option Breach → Fault
-faultOf none = Nothing
-faultOf (some b) = Broken (b .rule) (b .place)
 
 -- rules 4 to 7 of assignment a of circuit c, on one of k fibres of a list
 abbrev pub ownRulesOn : ℕ → ℕ → List ℕ → Circuit → AssignmentRecord → List Rule

@@ -12,7 +12,7 @@ use Rattle.method.specs.Line.{unassigned}
 use Rattle.places.specs.Places.{riders}
 use Rattle.places.proofs.RiderLaws.{length-riders}
 use Rattle.additions.specs.Adding.{give}
-use Rattle.placing.specs.Riding.{fibresIn, assignmentsIn}
+use Rattle.placing.specs.Riding.{placesOf, spansOf}
 use Rattle.placing.specs.Turns.{recorded}
 use Rattle.register.specs.Plans.{planIn}
 use Rattle.placing.proofs.Orderly.{ordered-in-turn}
@@ -25,17 +25,17 @@ place-all-requires c κs = let a = c .before .before .before .before .before .be
     let cs = circuitsIn (a .mo) (a .old .now) in let ds = circuitsIn (a .m) (a .new .now) in
     let n = length-riders ds (replicate (a .m) unassigned) in let k = length-circuitsIn (a .m) (a .new .now) in
     let s = c .before .before .before .before .before .before .before .before .ride-all .kept .1 .1 .1 .1 .0 in
-    ((b .1, b .2, b .3, b .4, b .5, b .6, b .7, omega (arith, b .8, s), c .before .before .before .before .before .before .before .before .ride-all .kept .1 .1 .1 .1 .1 .0, c .before .before .before .before .before .before .before .before .ride-all .kept .1 .1 .1 .1 .1 .1 .0, d .4, omega (arith, b .2)), (riders cs (assignmentsIn (a .mo) (a .assigns .now)), replicate (a .m) unassigned, length-riders cs (assignmentsIn (a .mo) (a .assigns .now)) ∙ length-circuitsIn (a .mo) (a .old .now), length-replicate (a .m) unassigned, ordered-in-turn (a .m) ds (cellsOf (a .order .now)) (length-cellsOf (a .order .now) (a .m) (b .3)) (d .2), c .before .before .before .before .before .before .before .before .ride-all .ensures (riders ds (replicate (a .m) unassigned)) (none-yet ds (a .m)) (omega (arith, b .2, n, k)) (omega (arith, b .8, n, k)) (omega (arith, b .7, n, k))))
+    ((b .1, b .2, b .3, b .4, b .5, b .6, b .7, omega (arith, b .8, s), c .before .before .before .before .before .before .before .before .ride-all .kept .1 .1 .1 .1 .1 .0, c .before .before .before .before .before .before .before .before .ride-all .kept .1 .1 .1 .1 .1 .1 .0, d .4, omega (arith, b .2)), (riders cs (placesOf (a .mo) (a .assigns .now)), replicate (a .m) unassigned, length-riders cs (placesOf (a .mo) (a .assigns .now)) ∙ length-circuitsIn (a .mo) (a .old .now), length-replicate (a .m) unassigned, ordered-in-turn (a .m) ds (cellsOf (a .order .now)) (length-cellsOf (a .order .now) (a .m) (b .3)) (d .2), c .before .before .before .before .before .before .before .before .ride-all .ensures (riders ds (replicate (a .m) unassigned)) (none-yet ds (a .m)) (omega (arith, b .2, n, k)) (omega (arith, b .8, n, k)) (omega (arith, b .7, n, k))))
 
 returns : tie.Need-returns
-unfolding assignmentsIn fibresIn planIn
+unfolding placesOf spansOf planIn
 returns c = let a = c .before .before .before .before .before .before .before .before .before .before .before .before .before .before .before .before .before .before .before .before .before .before .before .before .before .before .args in let b = c .before .before .before .before .before .before .before .before .before .before .before .before .before .before .before .before .before .before .before .before .before .before .before .before .before .before .pre .0 in let d = c .before .before .before .before .before .before .before .before .before .before .before .before .before .before .before .before .before .before .before .before .before .before .before .before .before .before .pre .1 in
     let cs = circuitsIn (a .mo) (a .old .now) in let ds = circuitsIn (a .m) (a .new .now) in
     let n = length-riders ds (replicate (a .m) unassigned) in let k = length-circuitsIn (a .m) (a .new .now) in
-    let o = length-riders cs (assignmentsIn (a .mo) (a .assigns .now)) ∙ length-circuitsIn (a .mo) (a .old .now) in
+    let o = length-riders cs (placesOf (a .mo) (a .assigns .now)) ∙ length-circuitsIn (a .mo) (a .old .now) in
     let lc = length-cellsOf (a .order .now) (a .m) (b .3) in
-    let y = c .before .before .before .before .before .before .place-all .ensures (riders cs (assignmentsIn (a .mo) (a .assigns .now))) (replicate (a .m) unassigned) o (length-replicate (a .m) unassigned) (ordered-in-turn (a .m) ds (cellsOf (a .order .now)) lc (d .2)) (c .before .before .before .before .before .before .before .before .before .before .before .before .before .before .before .ride-all .ensures (riders ds (replicate (a .m) unassigned)) (none-yet ds (a .m)) (omega (arith, b .2, n, k)) (omega (arith, b .8, n, k)) (omega (arith, b .7, n, k))) in
-    found-written (a .w) (a .m) cs (planIn (a .many) (a .mo) (a .fibres .now) (a .assigns .now)) ds (cellsOf (a .order .now)) (a .assigns .now) _ (a .mo) lc k (d .1) (d .3) (d .2) (b .7) (y .said ∙ ap (λ (i : ℕ). recorded ds i (give (fibresIn (a .many) (a .fibres .now)) (a .w) (riders cs (assignmentsIn (a .mo) (a .assigns .now))) ds (cellsOf (a .order .now)) (replicate (a .m) unassigned)) (cellsOf (a .order .now)) (a .assigns .now)) o)
+    let y = c .before .before .before .before .before .before .place-all .ensures (riders cs (placesOf (a .mo) (a .assigns .now))) (replicate (a .m) unassigned) o (length-replicate (a .m) unassigned) (ordered-in-turn (a .m) ds (cellsOf (a .order .now)) lc (d .2)) (c .before .before .before .before .before .before .before .before .before .before .before .before .before .before .before .ride-all .ensures (riders ds (replicate (a .m) unassigned)) (none-yet ds (a .m)) (omega (arith, b .2, n, k)) (omega (arith, b .8, n, k)) (omega (arith, b .7, n, k))) in
+    found-written (a .w) (a .m) cs (planIn (a .many) (a .mo) (a .fibres .now) (a .assigns .now)) ds (cellsOf (a .order .now)) (a .assigns .now) _ (a .mo) lc k (d .1) (d .3) (d .2) (b .7) (y .said ∙ ap (λ (i : ℕ). recorded ds i (give (spansOf (a .many) (a .fibres .now)) (a .w) (riders cs (placesOf (a .mo) (a .assigns .now))) ds (cellsOf (a .order .now)) (replicate (a .m) unassigned)) (cellsOf (a .order .now)) (a .assigns .now)) o)
 
 pub place-new-spec : {M : Type 1} → statement M
 place-new-spec =

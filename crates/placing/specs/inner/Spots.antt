@@ -1,4 +1,4 @@
--- What a fibre offers a circuit, the place that is found, and whom a fibre shuts out. Assumes nothing.
+-- What a fibre offers a circuit, and whom it shuts out. Assumes nothing.
 use Prim.Native.Nat.{_-_, _<_, _≤_, ℕ}
 use lib.Dec.{leb}
 use lib.ListN.{getD, length}
@@ -9,16 +9,12 @@ use Rattle.basics.specs.Tools.{each}
 use Rattle.records.specs.Records.{fibreOf, recordAt}
 use Rattle.records.specs.declared.Circuit.{Circuit}
 use Rattle.method.specs.Line.{Fibre, overlap}
-use Rattle.places.specs.Places.{Rider, freeWavelength, place, rider, hasPlace}
+use Rattle.places.specs.Places.{Rider, freeWavelength, rider, hasPlace}
 use Rattle.placing.specs.Riding.{Among, Chain}
 
 -- v is what fibre q offers circuit c: its lowest free wavelength of lo to hi if it spans c and has one, else a number past hi
 abbrev pub Offers : List Fibre → ℕ → ℕ → List Rider → Circuit → ℕ → ℕ → Type 0
 Offers fs lo hi rs c q v = (leb v hi ≡ hasPlace fs lo hi rs c q) × (v ≤ hi → v ≡ freeWavelength lo hi rs c q)
-
--- fibre q and wavelength v are the place that `place` names; both are 0 if there is none
-abbrev pub Spotted : List Fibre → ℕ → ℕ → List Rider → Circuit → ℕ → ℕ → Type 0
-Spotted fs lo hi rs c q v = (q ≡ (place fs lo hi rs c) .fibre) × (v ≡ (place fs lo hi rs c) .wavelength)
 
 -- CORNERS. Fibre q shuts out the circuits that begin at link p or before and end at link t or later: none of them finds a wavelength there
 abbrev pub ShutsOut : ℕ → ℕ → List Rider → ℕ → ℕ → ℕ → Type 0

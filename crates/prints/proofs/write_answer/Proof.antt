@@ -1,6 +1,6 @@
 -- `write_answer`: each case of the answer has its text. Assumes nothing.
 use mathlib.Core.Path.{subst}
-use native.Mathlib.Omega.{arith}
+use lib.ListN.{length}
 use Rattle.planner.specs.declared.Answer.{Answer}
 use Rattle.prints.specs.inner.Lent.{Held}
 use Rattle.prints.proofs.Holding.{of-case}
@@ -11,8 +11,13 @@ use Rattle.prints.proofs.write_answer.Tie as tie
 write-sheet-requires : tie.Need-write-sheet-requires
 write-sheet-requires c κs =
     let x = c .before .before .before .before .before .before .before .args in
-    let h = subst (λ (t : Answer). Held t (x .m) (x .fibres .now) (x .assigns .now)) (c .before .before .a .given .1) (c .before .before .before .before .before .before .before .pre .0) in
-    ((h .2, h .3, h .0, h .1), omega (arith, h .0, h .1))
+    let h = subst (λ (t : Answer). Held t (x .m) (x .fibres .now) (x .assigns .now) (length (x .out .now))) (c .before .before .a .given .1) (c .before .before .before .before .before .before .before .pre) in
+    ((h .0, h .1, h .2, h .3), h .4)
+
+write-refusal-requires : tie.Need-write-refusal-requires
+write-refusal-requires c κs =
+    let x = c .before .before .before .before .before .before .before .args in
+    subst (λ (t : Answer). Held t (x .m) (x .fibres .now) (x .assigns .now) (length (x .out .now))) (c .before .before .a2 .given .1) (c .before .before .before .before .before .before .before .pre)
 
 returns : tie.Need-returns
 returns c =
@@ -31,7 +36,7 @@ write-answer-spec =
     (λ c. search needs)
     write-sheet-requires
     (λ c. search needs)
-    (λ c κs. search needs)
+    write-refusal-requires
     (λ c. search needs)
     returns
     (λ c. search needs)

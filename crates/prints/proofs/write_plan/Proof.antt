@@ -14,7 +14,7 @@ write-answer-requires c κs =
     let start = c .before .before .before .before .before .before .before .before .before .before .before .before .before .before .before .before .before .before in
     let x = start .args in
     let p = c .before .before .before .before .before .before .before .before .before .plan in
-    (held (x .line) (x .circuits .now) (areas (x .fibres .now) (x .assigns .now) (x .work .now)) (start .pre .0) _ (p .result) (p .kept .1 .1 .0) (p .kept .1 .1 .1 .0) (p .ensures), search needs)
+    held (x .line) (x .circuits .now) (areas (x .fibres .now) (x .assigns .now) (x .work .now)) (start .pre .0) _ (p .result) (p .kept .1 .1 .0) (p .kept .1 .1 .1 .0) (p .ensures) _ (start .pre .1)
 
 returns : tie.Need-returns
 returns c =

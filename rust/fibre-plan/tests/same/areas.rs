@@ -4,7 +4,7 @@ use reference::{Line, Slip};
 use std::ops::Range;
 
 /// The least bytes that stand before and behind each lent area, which nobody may touch.
-const GUARD: usize = 16;
+pub const GUARD: usize = 16;
 
 /// One call: its line, its circuit file, and the lengths of the three areas.
 #[derive(Clone, Debug)]

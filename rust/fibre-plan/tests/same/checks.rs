@@ -1,6 +1,6 @@
 //! The check of the library and that of the reference agree on every plan.
 use crate::areas::Input;
-use crate::draws::{accepted, full_size, rng_of, Size, LARGE, MIDDLE, SMALL};
+use crate::draws::{accepted, full_size, rng_of, Digits, Size, LARGE, MIDDLE, SMALL};
 use crate::spread;
 use crate::submitted::{
     contractors, crowded, damage, damaged, one_fibre_each, ours, ours_with_some_moved, valid,
@@ -165,17 +165,6 @@ fn layers_do_not_matter() {
         }
         assert_eq!(plan.by_library(), other.by_library(), "{plan:?}");
     });
-}
-
-/// The digits of a number, each of its own base.
-struct Digits(usize);
-
-impl Digits {
-    fn next(&mut self, base: usize) -> u16 {
-        let digit = self.0 % base;
-        self.0 /= base;
-        digit as u16
-    }
 }
 
 /// How many circuits, fibres and assignments there are in the plans of `plan_of`.

@@ -21,6 +21,12 @@ pub const MIDDLE: Size = Size {
     wavelengths: 80,
     circuits: 120,
 };
+/// Many fibres on a short line.
+pub const DENSE: Size = Size {
+    links: 24,
+    wavelengths: 8,
+    circuits: 200,
+};
 pub const LARGE: Size = Size {
     links: 512,
     wavelengths: 80,
@@ -166,6 +172,17 @@ pub fn repeated(numbers: Numbers, at: usize, distance: usize) -> Input {
     Input::new([1, 1, 1], encode(&list))
 }
 
+/// The digits of a number, each of its own base.
+pub struct Digits(pub usize);
+
+impl Digits {
+    pub fn next(&mut self, base: usize) -> u16 {
+        let digit = self.0 % base;
+        self.0 /= base;
+        digit as u16
+    }
+}
+
 /// Circuit numbers of the small inputs: none, and an order that is another byte by byte.
 const NUMBERS: [u32; 4] = [0, 1, 2, 1 << 24];
 
@@ -175,20 +192,12 @@ pub fn circuits_on(links: usize) -> usize {
 }
 
 /// Of all files of so many such circuits, the one that has a number.
-pub fn file_of(links: usize, many: usize, mut code: usize) -> Vec<u8> {
-    let mut digit = |base: usize| {
-        let d = code % base;
-        code /= base;
-        d
+pub fn file_of(links: usize, many: usize, code: usize) -> Vec<u8> {
+    let mut digits = Digits(code);
+    let mut circuit = || {
+        let number = NUMBERS[usize::from(digits.next(NUMBERS.len()))];
+        (number, digits.next(links + 2), digits.next(links + 2))
     };
-    let list: Vec<Circuit> = (0..many)
-        .map(|_| {
-            (
-                NUMBERS[digit(4)],
-                digit(links + 2) as u16,
-                digit(links + 2) as u16,
-            )
-        })
-        .collect();
+    let list: Vec<Circuit> = (0..many).map(|_| circuit()).collect();
     encode(&list)
 }

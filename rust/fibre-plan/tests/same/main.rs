@@ -1,9 +1,12 @@
 //! The library and a reference written from the papers alone agree on every answer and every byte.
+mod added;
+mod additions;
 mod areas;
 mod checks;
 mod draws;
 mod pages;
 mod submitted;
+mod turns;
 
 use areas::{Answer, Input, Seen};
 use draws::{accepted, damaged, full_size, rng_of, Size, LARGE, MIDDLE, SMALL};

@@ -115,7 +115,7 @@ struct Draft {
 }
 
 /// The typed records of a list.
-fn typed<T>(list: &[u8], read: impl Fn(&[u8; 8]) -> T) -> Vec<T> {
+pub fn typed<T>(list: &[u8], read: impl Fn(&[u8; 8]) -> T) -> Vec<T> {
     let (records, _) = list.as_chunks();
     records.iter().map(read).collect()
 }
@@ -304,7 +304,7 @@ fn half(list: &[u8], at: usize) -> usize {
 }
 
 /// Spoils one fibre record, or changes its layer, which spoils nothing.
-fn spoil_fibre(list: &mut [u8], links: usize, rng: &mut Rng) {
+pub fn spoil_fibre(list: &mut [u8], links: usize, rng: &mut Rng) {
     let Some((at, other)) = two_records(list, rng) else {
         return;
     };
@@ -324,7 +324,7 @@ fn spoil_fibre(list: &mut [u8], links: usize, rng: &mut Rng) {
 }
 
 /// Spoils one assignment record.
-fn spoil_assignment(plan: &mut Submitted, rng: &mut Rng) {
+pub fn spoil_assignment(plan: &mut Submitted, rng: &mut Rng) {
     let (list, fibres, w) = (
         &mut plan.assignments,
         plan.fibres.len() / 8,
@@ -355,7 +355,7 @@ fn spoil_assignment(plan: &mut Submitted, rng: &mut Rng) {
 }
 
 /// Gives each assignment one of the first wavelengths, so that many clash.
-fn crowd(plan: &mut Submitted, rng: &mut Rng) {
+pub fn crowd(plan: &mut Submitted, rng: &mut Rng) {
     let most = rng.within(1, 3);
     for record in plan.assignments.chunks_exact_mut(8) {
         set_half(record, 6, rng.within(1, most));

@@ -16,12 +16,12 @@ use Rattle.prints.proofs.keeping.keep_plan.Statement.{statement}
 use Rattle.prints.proofs.keeping.keep_plan.Tie as tie
 
 -- the lists hold what the answer counts
-holds : (c : tie.After-plan) → Held (c .plan .result) (length (c .before .before .before .before .before .before .before .before .before .args .circuits .now) / 8) (c .plan .last .1 .1 .0) (c .plan .last .1 .1 .1 .0)
+holds : (c : tie.After-plan) → Held (c .plan .result) (length (c .before .before .before .before .before .before .before .before .before .args .circuits .now) / 8) (c .plan .last .1 .1 .0) (c .plan .last .1 .1 .1 .0) (length (c .before .before .before .before .before .before .before .before .before .args .out .now))
 holds c =
     let start = c .before .before .before .before .before .before .before .before .before in
     let x = start .args in
     let p = c .plan in
-    held (x .line) (x .circuits .now) (areas (x .fibres .now) (x .assigns .now) (x .work .now)) (start .pre .0) (areas (p .last .1 .1 .0) (p .last .1 .1 .1 .0) (p .last .1 .1 .1 .1 .0)) (p .result) (p .kept .1 .1 .0) (p .kept .1 .1 .1 .0) (p .ensures)
+    held (x .line) (x .circuits .now) (areas (x .fibres .now) (x .assigns .now) (x .work .now)) (start .pre .0) (areas (p .last .1 .1 .0) (p .last .1 .1 .1 .0) (p .last .1 .1 .1 .1 .0)) (p .result) (p .kept .1 .1 .0) (p .kept .1 .1 .1 .0) (p .ensures) _ (start .pre .1)
 
 -- the text is that of the sheet
 sheet : (c : tie.After-write-answer) → Wrote (sheetOf (c .before .before .before .before .before .before .before .before .before .before .before .before .before .before .before .before .before .before .before .args .line) (c .before .before .before .before .before .before .before .before .before .before .before .before .before .before .before .before .before .before .before .args .circuits .now)) (c .write-answer .result) (c .before .before .before .before .before .before .before .before .before .before .before .before .before .before .before .before .before .before .before .args .out .now) (c .write-answer .last .1 .1 .1 .1 .1 .0)
@@ -35,13 +35,13 @@ sheet c =
     (t .ensures)
 
 write-answer-requires : tie.Need-write-answer-requires
-write-answer-requires c κs = (holds (c .before .before .before .before .before .before .before .before .before), search needs)
+write-answer-requires c κs = holds (c .before .before .before .before .before .before .before .before .before)
 
 mul-t28 : tie.Need-mul-t28
 mul-t28 c =
     let p = c .before .before .before .before .before .before .before .before .before .before .before .before .before .before .before .before .plan in
-    let h = subst (λ (a : Answer). Held a (length (c .before .before .before .before .before .before .before .before .before .before .before .before .before .before .before .before .before .before .before .before .before .before .before .before .before .args .circuits .now) / 8) (p .last .1 .1 .0) (p .last .1 .1 .1 .0)) (c .before .before .a .given .1) (holds (c .before .before .before .before .before .before .before .before .before .before .before .before .before .before .before .before)) in
-    omega (arith, h .0)
+    let h = subst (λ (a : Answer). Held a (length (c .before .before .before .before .before .before .before .before .before .before .before .before .before .before .before .before .before .before .before .before .before .before .before .before .before .args .circuits .now) / 8) (p .last .1 .1 .0) (p .last .1 .1 .1 .0) (length (c .before .before .before .before .before .before .before .before .before .before .before .before .before .before .before .before .before .before .before .before .before .before .before .before .before .args .out .now))) (c .before .before .a .given .1) (holds (c .before .before .before .before .before .before .before .before .before .before .before .before .before .before .before .before)) in
+    omega (arith, h .2)
 
 returns : tie.Need-returns
 returns c =

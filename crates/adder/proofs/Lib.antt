@@ -1,0 +1,16 @@
+pub mod Joined
+pub mod Leaves
+pub mod Reading
+pub mod Written
+pub mod Answers
+pub mod After
+pub mod Rearranging
+pub mod Orders
+pub mod Nothing
+pub mod Bench
+pub mod Accepting
+pub mod Order
+pub mod Judging
+pub mod Growing
+pub mod GrowingBoth
+pub mod Pinned
