@@ -1,9 +1,9 @@
 /* A fibre planner that is proved: every circuit of a line gets a fibre and a wavelength. Circuits can be added to a plan, and none is
- * moved. And a check of any plan, whoever made it.
+ * moved. A damaged register can be mended. And a check of any plan, whoever made it.
  *
  * Build the archive with `rt staticlib exports`, and link target/staticlib/libexports.a (x86-64 Linux).
  * The functions keep nothing between calls and allocate nothing; fibre_plan uses less than 48 KB of stack, fibre_check less than 64 KB,
- * fibre_add less than 96 KB. Several threads may call them at the same time, each with areas of its own to be written.
+ * fibre_add and fibre_mend less than 96 KB. Several threads may call them at the same time, each with areas of its own to be written.
  *
  * All records have 8 bytes; all numbers are unsigned and stand low byte first.
  *
@@ -30,7 +30,7 @@ extern "C" {
 #define FIBRE_PLAN_MAX_LINKS 512
 #define FIBRE_PLAN_MAX_CIRCUITS 2048   /* old and new ones together */
 #define FIBRE_PLAN_MAX_FIBRES 4096     /* of a plan that is checked */
-#define FIBRE_PLAN_MAX_OLD_FIBRES 2048 /* of a plan that circuits are added to */
+#define FIBRE_PLAN_MAX_OLD_FIBRES 2048 /* of a plan that circuits are added to, or of a register that is mended */
 
 /* The grids, and the most wavelengths of each. */
 #define FIBRE_PLAN_GRID_100_GHZ 1
@@ -44,10 +44,12 @@ extern "C" {
 #define FIBRE_PLAN_END_LAST_PAST_LINE 3  /* the last link is past the line */
 
 /* The bytes that each area must have, for so many circuits and links. There is at most one fibre a circuit. Where circuits are added,
- * the fibre list asks for FIBRE_PLAN_FIBRE_BYTES(old fibres + new circuits), the others count the circuits of both files. */
+ * the fibre list asks for FIBRE_PLAN_FIBRE_BYTES(old fibres + new circuits), the others count the circuits of both files. Where a
+ * register is mended, the fibre list asks for FIBRE_PLAN_FIBRE_BYTES(old fibres + circuits). */
 #define FIBRE_PLAN_FIBRE_BYTES(circuits) (8 * (size_t)(circuits))
 #define FIBRE_PLAN_ASSIGNMENT_BYTES(circuits) (8 * (size_t)(circuits))
 #define FIBRE_PLAN_WORK_BYTES(links, circuits) (4 * (size_t)(links) + 4 * (size_t)(circuits))
+#define FIBRE_PLAN_REPORT_BYTES(circuits) (12 * (size_t)(circuits)) /* of fibre_mend: 12 bytes a line */
 
 /* What fibre_plan and fibre_add answer. Where they refuse, the last three are 0. For fibre_add see there.
  *
@@ -156,6 +158,73 @@ fibre_plan_answer fibre_add(size_t links, size_t wavelengths, size_t grid,
                             uint8_t *assignments, size_t assignments_len,
                             uint8_t *work, size_t work_len);
 
+/* What fibre_mend answers. Where it refuses, the last four are 0.
+ *
+ * The tests run in this order, each over the whole input; the first refusal that applies is given, and none otherwise. Places are
+ * circuit records but for refusals 16 and 20, counted from 1. The end is as in fibre_plan_answer.
+ *
+ *   refusal  given when                                                     place                   end
+ *      0     mended                                                         0                       0
+ *      1     the circuit bytes are not a multiple of 8                      0                       0
+ *      2     there are more than 2,048 circuits                             0                       0
+ *      3     links is not 1 to 512                                          0                       0
+ *     12     grid is neither 1 nor 2                                        0                       0
+ *      4     wavelengths is not 1 to 40 (grid 1) or 1 to 80 (grid 2)        0                       0
+ *      5     a circuit number is 0                                          the first such record   0
+ *      6     a first link is 0, or past the last, or the last past links    the first such record   1, 2 or 3
+ *      7     a circuit number stands twice                                  the first that repeats  0
+ *      8     fibres has fewer than 8 bytes for each of old_fibres and for   0                       0
+ *            each circuit
+ *     10     work has fewer than 4 bytes a link and 4 bytes a circuit       0                       0
+ *     16     assignments has not exactly 8 bytes a circuit                  2                       0
+ *     20     old_fibres is over 2,048                                       0                       0
+ *     20     an old fibre breaks rule 1 or 2 of fibre_check                 the first such fibre    0
+ *     23     report has fewer than 12 bytes a circuit                       0                       0
+ */
+typedef struct fibre_mend_answer {
+    uint32_t refusal; /* 0: mended */
+    uint32_t place;
+    uint32_t end;     /* 0, but for refusal 6 */
+    size_t fibres;    /* how many fibres the plan has, old and added ones */
+    size_t total;     /* the sum over the fibres of the links that they span */
+    size_t floor;     /* a length that no valid plan can be shorter than */
+    size_t lines;     /* how many lines the report has: the circuits that were not kept */
+} fibre_mend_answer;
+
+/* Mends a register: circuits, fibres, and a damaged list of assignments. By rising circuit number, an assignment is kept if it breaks
+ * none of the rules 4 to 7 of fibre_check and clashes with none that was kept before. When it is known who is kept, the others take
+ * their turns by rising number, as in fibre_add: each gets the lowest-numbered old fibre that spans it and has a wavelength free there,
+ * and the lowest such wavelength. Those that fit nowhere are planned together, as fibre_plan plans them; their fibres follow the old
+ * ones, numbered on from them, with layers counted from 1.
+ *
+ *   links, wavelengths   of the line, and of each fibre; any value is taken, also others than the plan was made with
+ *   grid                 FIBRE_PLAN_GRID_100_GHZ or FIBRE_PLAN_GRID_50_GHZ; any value is taken
+ *   circuits             circuits_len bytes of circuit records, in the order of their assignments; only read
+ *   old_fibres           how many old records fibres begins with; any value is taken
+ *   fibres               fibres_len bytes; the fibre records that are added are written behind the old ones
+ *   assignments          assignments_len bytes, exactly one record for each circuit, in the order of the circuits, with any bytes in
+ *                        them; the assignment of each circuit that is not kept is written to its own record
+ *   report               report_len bytes; a line of 12 bytes for each circuit that is not kept is written to its start, by rising
+ *                        circuit number
+ *   work                 work_len bytes to work in; after a mending its first FIBRE_PLAN_WORK_BYTES(links, circuits) bytes are zero
+ *
+ *   line of the report   circuit number (4 bytes), fibre (2) and wavelength (2) found, fibre (2) and wavelength (2) given
+ *
+ * What is found is what stands in the record at the circuit's place, even if that names another circuit; what is given may be the same.
+ * The three numbers are those of the whole plan. No old fibre and no assignment that is kept changes a byte, so a register without
+ * faults stays as it is. What stood behind the old fibres, in report and in work does not matter. Every byte behind what is named here
+ * is left as it was, and a refusal changes no byte.
+ *
+ * The caller sees to it that each pointer is to so many bytes (and is not NULL, not even where the length is 0), that the five areas
+ * do not overlap, and that nobody else uses the four that are written, or writes to the circuits, during the call. */
+fibre_mend_answer fibre_mend(size_t links, size_t wavelengths, size_t grid,
+                             const uint8_t *circuits, size_t circuits_len,
+                             size_t old_fibres,
+                             uint8_t *fibres, size_t fibres_len,
+                             uint8_t *assignments, size_t assignments_len,
+                             uint8_t *report, size_t report_len,
+                             uint8_t *work, size_t work_len);
+
 /* The rules of a valid plan, by how they are broken. */
 #define FIBRE_PLAN_RULE_FIBRE_NUMBER 1
 #define FIBRE_PLAN_RULE_FIBRE_SPAN 2
@@ -207,14 +276,13 @@ typedef struct fibre_check_answer {
     size_t floor;     /* a length that no valid plan can be shorter than */
 } fibre_check_answer;
 
-/* Checks a plan of the circuits of a line, whoever made it: yes exactly if it breaks no rule. Every plan that fibre_plan
- * or fibre_add writes gets a yes, with its total and its floor.
+/* Checks a plan of the circuits of a line, whoever made it: yes exactly if it breaks no rule. Every plan that fibre_plan,
+ * fibre_add or fibre_mend writes gets a yes, with its total and its floor.
  *
  *   links, wavelengths   of the line, and of each fibre; any value is taken
  *   grid                 FIBRE_PLAN_GRID_100_GHZ or FIBRE_PLAN_GRID_50_GHZ; any value is taken
  *   circuits             circuits_len bytes of circuit records, in any order
- *   fibres               fibres_len bytes of fibre records, for a plan of fibre_plan or fibre_add 8 bytes for each of its fibres; their
- *                        layers do not matter
+ *   fibres               fibres_len bytes of fibre records, for a plan of ours 8 bytes for each of its fibres; their layers do not matter
  *   assignments          assignments_len bytes of assignment records, in the order of the circuits
  *
  * All three are only read. The caller sees to it that each pointer is to so many bytes (and is not NULL, not even where the

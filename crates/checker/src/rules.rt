@@ -37,7 +37,7 @@ fn fibre_rule(f: records::FibreRecord, i: usize, n: usize) -> u32
 }
 
 // The first faulty one of k fibres, and its lowest rule.
-fn fibre_fault(fibres: &[u8], k: usize, n: usize) -> Fault
+pub fn fibre_fault(fibres: &[u8], k: usize, n: usize) -> Fault
     requires { ⌜ (8 * k ≤ length (now fibres)) × (k ≤ 4096) ⌝ }
     ensures { λ r. ⌜ r ≡ faultOf (firstFault (fibreRules n (fibresIn k (now (fibres .entry)))) k) ⌝ }
 {
@@ -105,7 +105,7 @@ fn own_rule(
 }
 
 // The lowest of rules 4 to 7 that assignment j breaks, or 0.
-fn rule_at(circuits: &[u8], fibres: &[u8], assigns: &[u8], j: usize, k: usize, w: usize) -> u32
+pub fn rule_at(circuits: &[u8], fibres: &[u8], assigns: &[u8], j: usize, k: usize, w: usize) -> u32
     requires { ⌜ (8 * j + 8 ≤ length (now circuits)) × (8 * k ≤ length (now fibres)) × (8 * j + 8 ≤ length (now assigns)) ⌝ }
     ensures { λ r. ⌜ r ≡ lowestBroken (ownRulesIn w k (now (circuits .entry)) (now (fibres .entry)) (now (assigns .entry)) j) ⌝ }
 {

@@ -1,3 +1,4 @@
 pub mod Named
 pub mod Told
+pub mod ToldMending
 pub mod ToldFindings

@@ -50,8 +50,8 @@ module _ (line : Line) (s : List ℕ) (before after : Areas) where
   plan-exported a r e o =
       exported (Outcome line s before after) a r
       (λ x q.
-        refusal-named (1 ∷ 2 ∷ 3 ∷ 12 ∷ 4 ∷ 5 ∷ 6 ∷ 7 ∷ 8 ∷ 9 ∷ 10 ∷ []) (tableFor line s before) (plan-in-order line s _ _ _) refl x
-        (seen line s before after a o .demand-1 .as-tabled x q))
+      refusal-named (1 ∷ 2 ∷ 3 ∷ 12 ∷ 4 ∷ 5 ∷ 6 ∷ 7 ∷ 8 ∷ 9 ∷ 10 ∷ []) (tableFor line s before) (plan-in-order line s _ _ _) refl x
+      (seen line s before after a o .demand-1 .as-tabled x q))
       e o
 
   -- so the demands hold of it
@@ -71,8 +71,8 @@ module _ (line : Line) (old new : List ℕ) (named : Named) (before after : Area
   add-exported a r e o =
       exported (Adder.Outcome line old new named before after) a r
       (λ x q.
-        refusal-named (1 ∷ 1 ∷ 2 ∷ 3 ∷ 12 ∷ 4 ∷ 5 ∷ 6 ∷ 7 ∷ 7 ∷ 8 ∷ 9 ∷ 10 ∷ 13 ∷ 14 ∷ []) (addTable line old new named before) (add-in-order line old new named before) refl x
-        (AdderAnswers.seen line old new named before after a o .demand-1 .as-tabled x q))
+      refusal-named (1 ∷ 1 ∷ 2 ∷ 3 ∷ 12 ∷ 4 ∷ 5 ∷ 6 ∷ 7 ∷ 7 ∷ 8 ∷ 9 ∷ 10 ∷ 13 ∷ 14 ∷ []) (addTable line old new named before) (add-in-order line old new named before) refl x
+      (AdderAnswers.seen line old new named before after a o .demand-1 .as-tabled x q))
       e o
 
   -- so a caller sees what one of `add` does

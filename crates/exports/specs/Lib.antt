@@ -1,3 +1,4 @@
 pub mod Exported
 pub mod AddExported
+pub mod MendExported
 pub mod CheckExported

@@ -1,6 +1,7 @@
-// The planner, additions and the check for callers in C and Rust: the answer's enum as a plain struct of numbers.
+// The planner, additions, mending and the check for callers in C and Rust: the answer's enum as a plain struct of numbers.
 pub mod add;
 pub mod check;
+pub mod mend;
 
 use planner::Answer;
 use records::Line;

@@ -47,7 +47,7 @@ unfolding keptAt
 kept-yes m s K j l e = kept-is m s K j l ∙ ap (λ b. cond b unassigned (placeOf (assignmentOf (recordAt s j)))) (ne-eqb (getD K j 0) 0 e)
 
 -- one flag more is set: one assignment more
-kept-more : (m : ℕ) (s K : List ℕ) (j : ℕ) → j < m → j < length K → keptIn m s (set K j 1) ≡ set (keptIn m s K) j (placeOf (assignmentOf (recordAt s j)))
+pub kept-more : (m : ℕ) (s K : List ℕ) (j : ℕ) → j < m → j < length K → keptIn m s (set K j 1) ≡ set (keptIn m s K) j (placeOf (assignmentOf (recordAt s j)))
 unfolding givenTo keptAt
 kept-more m s K j l room =
     let g : Assignment = placeOf (assignmentOf (recordAt s j)) in

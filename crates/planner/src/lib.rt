@@ -7,7 +7,7 @@ ghost use Rattle.register.specs.Areas.{areas};
 ghost use Rattle.planner.specs.Outcome.{Outcome};
 ghost use Rattle.planner.specs.Settled.{Admitted, Settled};
 
-mod admit;
+pub mod admit;
 
 // Planned, with the three numbers, or refused, with number, place and which end is wrong.
 pub enum Answer {

@@ -23,6 +23,13 @@ pub struct CheckAnswer {
     pub floor: usize,
 }
 
+/// What `fibre_mend` answers, as the archive returns it. The layout is that of `include/fibre_plan.h`: first the fields of the others.
+#[repr(C)]
+pub struct MendAnswer {
+    pub plan: PlanAnswer,
+    pub lines: usize,
+}
+
 extern "C" {
     fn fibre_plan(
         links: usize,
@@ -55,6 +62,23 @@ extern "C" {
         work: *mut u8,
         work_len: usize,
     ) -> PlanAnswer;
+
+    fn fibre_mend(
+        links: usize,
+        wavelengths: usize,
+        grid: usize,
+        circuits: *const u8,
+        circuits_len: usize,
+        old_fibres: usize,
+        fibres: *mut u8,
+        fibres_len: usize,
+        assignments: *mut u8,
+        assignments_len: usize,
+        report: *mut u8,
+        report_len: usize,
+        work: *mut u8,
+        work_len: usize,
+    ) -> MendAnswer;
 
     fn fibre_check(
         links: usize,
@@ -130,6 +154,38 @@ pub fn add(
     }
 }
 
+/// Calls `fibre_mend` on lent areas.
+pub fn mend(
+    [links, wavelengths, grid]: [usize; 3],
+    circuits: &[u8],
+    old_fibres: usize,
+    fibres: &mut [u8],
+    assignments: &mut [u8],
+    report: &mut [u8],
+    work: &mut [u8],
+) -> MendAnswer {
+    // SAFETY: the function takes every input; each pointer and length are those of a slice that is
+    // borrowed for the call, and the four that are written, being `&mut`, overlap nothing.
+    unsafe {
+        fibre_mend(
+            links,
+            wavelengths,
+            grid,
+            circuits.as_ptr(),
+            circuits.len(),
+            old_fibres,
+            fibres.as_mut_ptr(),
+            fibres.len(),
+            assignments.as_mut_ptr(),
+            assignments.len(),
+            report.as_mut_ptr(),
+            report.len(),
+            work.as_mut_ptr(),
+            work.len(),
+        )
+    }
+}
+
 /// Calls `fibre_check`.
 pub fn check(
     links: usize,
@@ -158,7 +214,7 @@ pub fn check(
 
 #[cfg(test)]
 mod tests {
-    use super::{add, check, plan, CheckAnswer};
+    use super::{add, check, mend, plan, CheckAnswer, MendAnswer};
     use crate::Old;
 
     const CIRCUIT: [u8; 8] = [7, 0, 0, 0, 1, 0, 1, 0];
@@ -210,6 +266,26 @@ mod tests {
         assert_eq!(added(&[8, 0, 0, 0, 1, 0, 1, 0]), ([0; 3], [1, 1, 1]));
         assert_eq!(added(&[7, 0, 0, 0, 1, 0, 1, 0]), ([14, 2, 0], [0; 3]));
         assert_eq!(added(&[8, 0, 0, 0, 1, 0, 2, 0]), ([6, 2, 3], [0; 3]));
+    }
+
+    /// The seven numbers of a mending of circuit 7, whose record is lost, on so many fibres of one link.
+    fn mended(line: [usize; 3], old_fibres: usize) -> ([u32; 3], [usize; 4]) {
+        let mut fibres = [1, 0, 1, 0, 1, 0, 1, 0].repeat(3);
+        let (mut assignment, mut report, mut work) = ([0; 8], [1; 12], [1; 8]);
+        let (f, a, r, k) = (&mut fibres, &mut assignment, &mut report, &mut work);
+        let MendAnswer { plan, lines } = mend(line, &CIRCUIT, old_fibres, f, a, r, k);
+        (
+            [plan.refusal, plan.place, plan.end],
+            [plan.fibres, plan.total, plan.floor, lines],
+        )
+    }
+
+    #[test]
+    fn a_mending_has_four_numbers_or_a_refusal() {
+        assert_eq!(mended([1, 1, 1], 1), ([0; 3], [1, 1, 1, 1]));
+        assert_eq!(mended([1, 1, 1], 2), ([20, 2, 0], [0; 4]));
+        assert_eq!(mended([1, 1, 1], 3), ([8, 0, 0], [0; 4]));
+        assert_eq!(mended([1, 1, 3], 1), ([12, 0, 0], [0; 4]));
     }
 
     /// The six numbers of an answer.

@@ -30,6 +30,8 @@
 //!
 //! [`Plan::add`] adds circuits to a plan and moves none that is there.
 //!
+//! [`mend`] puts a damaged register in order: what is sound stays, and what is not gets a place again.
+//!
 //! [`check`] says of a plan that anybody made whether it is valid, and if not, which rule it breaks first, and where.
 #![deny(missing_docs)]
 #![deny(unsafe_op_in_unsafe_fn)]
@@ -38,13 +40,15 @@ mod abi;
 mod add;
 mod check;
 mod grid;
+mod mend;
 mod records;
 mod refusal;
 
 pub use add::{add_bytes, Old};
 pub use check::{check, check_bytes, Finding, Rule};
 pub use grid::Grid;
-pub use records::{Assignment, Circuit, Fibre, RECORD_BYTES};
+pub use mend::{mend, mend_bytes, MendCounts, Mended};
+pub use records::{Assignment, Circuit, Fibre, ReportLine, RECORD_BYTES, REPORT_LINE_BYTES};
 pub use refusal::{End, Refusal};
 
 /// The most links that a line may have.
@@ -53,7 +57,7 @@ pub const MAX_LINKS: usize = 512;
 /// The most circuits that are planned or checked at once; where some are added, with the old ones.
 pub const MAX_CIRCUITS: usize = 2048;
 
-/// The most fibres of a plan that circuits are added to.
+/// The most fibres of a plan that circuits are added to, or of a register that is mended.
 pub const MAX_OLD_FIBRES: usize = 2048;
 
 /// The most fibres of a plan that is checked.
@@ -77,7 +81,7 @@ pub struct Counts {
     pub fibres: usize,
     /// The sum over the fibres of the links that they span.
     pub total: usize,
-    /// A length that no valid plan can be shorter than; `total` is at most twice that where nothing was added.
+    /// A length that no valid plan can be shorter than; `total` is at most twice that where nothing was added or mended.
     pub floor: usize,
 }
 
@@ -91,12 +95,12 @@ pub struct Plan {
     pub assignments: Vec<Assignment>,
     /// The sum over the fibres of the links that they span.
     pub total: usize,
-    /// A length that no valid plan can be shorter than; `total` is at most twice that where nothing was added.
+    /// A length that no valid plan can be shorter than; `total` is at most twice that where nothing was added or mended.
     pub floor: usize,
 }
 
 /// The bytes that a fibre list must have, for so many circuits: there is at most one fibre a circuit. Where circuits are added, for so
-/// many old fibres and new circuits.
+/// many old fibres and new circuits; where a register is mended, for so many of its fibres and its circuits.
 pub const fn fibre_bytes(circuits: usize) -> usize {
     circuits.saturating_mul(RECORD_BYTES)
 }
@@ -104,6 +108,11 @@ pub const fn fibre_bytes(circuits: usize) -> usize {
 /// The bytes that an assignment list must have, for so many circuits, old or new.
 pub const fn assignment_bytes(circuits: usize) -> usize {
     circuits.saturating_mul(RECORD_BYTES)
+}
+
+/// The bytes that the report of a mending must have, for so many circuits.
+pub const fn report_bytes(circuits: usize) -> usize {
+    circuits.saturating_mul(REPORT_LINE_BYTES)
 }
 
 /// The bytes that a work area must have, for so many links and circuits, old or new.

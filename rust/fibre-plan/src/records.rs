@@ -1,7 +1,10 @@
-//! The records: 8 bytes each, numbers low byte first.
+//! The records, 8 bytes each, and the lines of a report, 12 bytes each; numbers low byte first.
 
 /// The bytes of a record.
 pub const RECORD_BYTES: usize = 8;
+
+/// The bytes of a line of a report.
+pub const REPORT_LINE_BYTES: usize = 12;
 
 /// A circuit that is asked for: links `first` to `last`.
 #[derive(Clone, Copy, Debug, PartialEq, Eq, Hash)]
@@ -38,13 +41,28 @@ pub struct Assignment {
     pub wavelength: u16,
 }
 
+/// A line of the report of a mending: a circuit that was not kept, where it was found, and where it is carried. The two may be alike.
+#[derive(Clone, Copy, Debug, PartialEq, Eq, Hash)]
+pub struct ReportLine {
+    /// The circuit's number.
+    pub circuit: u32,
+    /// The number of the fibre in the record at the circuit's place, whatever else stood there.
+    pub found_fibre: u16,
+    /// The wavelength in that record.
+    pub found_wavelength: u16,
+    /// The number of its fibre.
+    pub given_fibre: u16,
+    /// Its wavelength.
+    pub given_wavelength: u16,
+}
+
 /// The two bytes at `at`, as a number.
-fn half(bytes: &[u8; RECORD_BYTES], at: usize) -> u16 {
+fn half(bytes: &[u8], at: usize) -> u16 {
     u16::from_le_bytes([bytes[at], bytes[at + 1]])
 }
 
 /// The first four bytes, as a number.
-fn whole(bytes: &[u8; RECORD_BYTES]) -> u32 {
+fn whole(bytes: &[u8]) -> u32 {
     u32::from_le_bytes([bytes[0], bytes[1], bytes[2], bytes[3]])
 }
 
@@ -111,6 +129,19 @@ impl Assignment {
     }
 }
 
+impl ReportLine {
+    /// Reads a line of a report.
+    pub fn from_bytes(bytes: &[u8; REPORT_LINE_BYTES]) -> Self {
+        Self {
+            circuit: whole(bytes),
+            found_fibre: half(bytes, 4),
+            found_wavelength: half(bytes, 6),
+            given_fibre: half(bytes, 8),
+            given_wavelength: half(bytes, 10),
+        }
+    }
+}
+
 /// The bytes of a list of records, but of no more than one past so many: what is past the limits is refused, and the others
 /// do not matter for that.
 pub fn encode<T: Copy>(
@@ -122,8 +153,12 @@ pub fn encode<T: Copy>(
     records.flat_map(|&record| write(record)).collect()
 }
 
-/// The first `many` records of a list.
-pub fn decode<T>(list: &[u8], many: usize, read: impl Fn(&[u8; RECORD_BYTES]) -> T) -> Vec<T> {
+/// The first `many` records of a list, or lines of a report.
+pub fn decode<T, const BYTES: usize>(
+    list: &[u8],
+    many: usize,
+    read: impl Fn(&[u8; BYTES]) -> T,
+) -> Vec<T> {
     let (records, _) = list.as_chunks();
     records.iter().take(many).map(read).collect()
 }

@@ -39,8 +39,8 @@ impl fmt::Display for End {
     }
 }
 
-/// Why an input was refused. A place is that of a circuit, counted from 1, but for 16. Where circuits are added, those of the new file
-/// count on from those of the old one.
+/// Why an input was refused. A place is that of a circuit, counted from 1, but for 16 and 20. Where circuits are added, those of the new
+/// file count on from those of the old one.
 #[derive(Clone, Copy, Debug, PartialEq, Eq, Hash)]
 #[non_exhaustive]
 pub enum Refusal {
@@ -71,7 +71,7 @@ pub enum Refusal {
         /// The first record that repeats an earlier one.
         place: usize,
     },
-    /// 8: the fibre list has fewer than 8 bytes an old record and 8 bytes a circuit that is planned.
+    /// 8: the fibre list has fewer than 8 bytes an old record and 8 bytes a circuit that is planned or mended.
     FibreRoom,
     /// 9: the assignment list has fewer than 8 bytes an old record and 8 bytes a circuit that is planned.
     AssignmentRoom,
@@ -87,8 +87,18 @@ pub enum Refusal {
     },
     /// 16, place 1: the fibre list to be checked is not whole records, or more than 4,096.
     FibreList,
-    /// 16, place 2: the assignment list to be checked is not whole records, or more than 2,048.
+    /// 16, place 2: the assignment list to be checked is not whole records, or more than 2,048; one to be mended is not one whole record
+    /// for each circuit.
     AssignmentList,
+    /// 20, place 0: the register to be mended has more than 2,048 fibres.
+    Fibres,
+    /// 20: a fibre of the register to be mended breaks rule 1 or 2 of [`Rule`](crate::Rule).
+    FibreRecord {
+        /// The first such fibre.
+        place: usize,
+    },
+    /// 23: the report has fewer than 12 bytes a circuit.
+    ReportRoom,
     /// What this crate's table does not have: the archive is newer.
     Other {
         /// Its number.
@@ -122,6 +132,9 @@ impl Refusal {
             (14, _, 0) => Self::OldNumber { place },
             (16, 1, 0) => Self::FibreList,
             (16, 2, 0) => Self::AssignmentList,
+            (20, 0, 0) => Self::Fibres,
+            (20, _, 0) => Self::FibreRecord { place },
+            (23, 0, 0) => Self::ReportRoom,
             _ => Self::Other { number, place, end },
         }
     }
@@ -143,18 +156,21 @@ impl Refusal {
             Self::OldPlan => 13,
             Self::OldNumber { .. } => 14,
             Self::FibreList | Self::AssignmentList => 16,
+            Self::Fibres | Self::FibreRecord { .. } => 20,
+            Self::ReportRoom => 23,
             Self::Other { number, .. } => number,
         }
     }
 
-    /// The circuit that it is about, counted from 1, or for 16 the list: 1 the fibres, 2 the assignments; 0 where it is about
-    /// none.
+    /// The circuit that it is about, counted from 1, or for 16 the list: 1 the fibres, 2 the assignments, or for 20 the fibre; 0 where it
+    /// is about none.
     pub fn place(self) -> usize {
         match self {
             Self::Zero { place }
             | Self::Ends { place, .. }
             | Self::Repeated { place }
             | Self::OldNumber { place }
+            | Self::FibreRecord { place }
             | Self::Other { place, .. } => place,
             Self::FibreList => 1,
             Self::AssignmentList => 2,
@@ -192,7 +208,14 @@ impl Refusal {
             }
             Self::OldNumber { .. } => "its number stands in the old file",
             Self::FibreList => "the fibre list is not whole records, or more than 4,096",
-            Self::AssignmentList => "the assignment list is not whole records, or more than 2,048",
+            Self::AssignmentList => {
+                "the assignment list is not whole records, or more than 2,048, or, to be mended, not one a circuit"
+            }
+            Self::Fibres => "there are more than 2,048 fibres",
+            Self::FibreRecord { .. } => {
+                "its number is not its place, or first link 0 or past the last, or last link past the line"
+            }
+            Self::ReportRoom => "the report is too short",
             Self::Other { .. } => "this crate has no words for it",
         }
     }
@@ -204,6 +227,7 @@ impl fmt::Display for Refusal {
         match (self, self.place()) {
             (_, 0) => (),
             (Self::FibreList | Self::AssignmentList, place) => write!(f, ", list {place}")?,
+            (Self::FibreRecord { .. }, place) => write!(f, ", fibre {place}")?,
             (_, place) => write!(f, ", record {place}")?,
         }
         write!(f, ": {}", self.text())
@@ -218,7 +242,7 @@ mod tests {
 
     #[test]
     fn each_number_is_handed_on() {
-        for number in 1..=17 {
+        for number in 1..=24 {
             for place in [0, 1, 2, 3, 2048] {
                 for end in 0..=4 {
                     let refusal = Refusal::from_table(number, place, end);

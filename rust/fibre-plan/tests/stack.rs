@@ -1,8 +1,8 @@
-//! How much stack one call uses, as the header says: of `fibre_plan` less than 48 KB, of `fibre_check` less than 64 KB, of `fibre_add` less than 96 KB.
+//! How much stack one call uses, as the header says: of `fibre_plan` less than 48 KB, of `fibre_check` less than 64 KB, of `fibre_add` and `fibre_mend` less than 96 KB.
 #![cfg(target_arch = "x86_64")]
 use fibre_plan::{
-    add_bytes, assignment_bytes, check_bytes, fibre_bytes, plan_bytes, work_bytes, Finding, Old,
-    Rule,
+    add_bytes, assignment_bytes, check_bytes, fibre_bytes, mend_bytes, plan_bytes, report_bytes,
+    work_bytes, Finding, Old, Rule,
 };
 use inputs::{encode, Family, Numbers, Rng, FAMILIES};
 use std::arch::asm;
@@ -13,6 +13,9 @@ const PLAN: usize = 48 * 1024;
 
 /// What the header promises that an addition stays below.
 const ADD: usize = 96 * 1024;
+
+/// What the header promises that a mending stays below.
+const MEND: usize = 96 * 1024;
 
 /// What the header promises that a check stays below.
 const CHECK: usize = 64 * 1024;
@@ -35,6 +38,7 @@ struct Call {
     old_fibres: usize,
     fibres: Vec<u8>,
     assignments: Vec<u8>,
+    report: Vec<u8>,
     work: Vec<u8>,
     planned: bool,
     checked: Option<Finding>,
@@ -55,6 +59,7 @@ impl Call {
             old_fibres: 0,
             fibres: vec![0; fibre_bytes(2048)],
             assignments: vec![0; assignment_bytes(2048)],
+            report: vec![0; report_bytes(2048)],
             work: vec![0; work_bytes(512, 2048)],
             planned: false,
             checked: None,
@@ -89,6 +94,20 @@ extern "C" fn add(call: &mut Call) {
         &call.added,
         &mut call.fibres,
         &mut call.assignments,
+        &mut call.work,
+    );
+    call.planned = answer.is_ok();
+}
+
+/// Mends what is in the areas.
+extern "C" fn mend(call: &mut Call) {
+    let answer = mend_bytes(
+        [call.links, call.wavelengths, call.grid],
+        &call.circuits,
+        call.old_fibres,
+        &mut call.fibres,
+        &mut call.assignments,
+        &mut call.report,
         &mut call.work,
     );
     call.planned = answer.is_ok();
@@ -215,6 +234,32 @@ fn an_addition_uses_less_than_96_kb_of_stack() {
     println!("fibre_add uses at most {most:?} bytes of stack");
     assert!(
         most.into_iter().all(|most| most < ADD),
+        "{most:?} bytes of stack"
+    );
+}
+
+/// Plans, adds dark fibres up to the most that are mended, and loses one record of so many; of 0, none.
+fn plan_and_lose<const OF: usize>(call: &mut Call) {
+    plan_some::<2048>(call);
+    call.fibres.resize(8 * (call.old_fibres + 2048), 0);
+    let records = call.assignments.chunks_exact_mut(8).enumerate();
+    for (_, record) in records.filter(|(at, _)| OF > 0 && at.is_multiple_of(OF)) {
+        record.fill(0);
+    }
+}
+
+#[test]
+fn a_mending_uses_less_than_96_kb_of_stack() {
+    let prepared: [fn(&mut Call); 4] = [
+        plan_and_lose::<0>,
+        plan_and_lose::<1>,
+        plan_and_lose::<2>,
+        plan_and_lose::<100>,
+    ];
+    let most = prepared.map(|prepare| most(mend, prepare, |call| call.planned));
+    println!("fibre_mend uses at most {most:?} bytes of stack");
+    assert!(
+        most.into_iter().all(|most| most < MEND),
         "{most:?} bytes of stack"
     );
 }

@@ -1,7 +1,7 @@
 //! The typed function says what the byte level says.
 use fibre_plan::{
-    check, check_bytes, plan, plan_bytes, Assignment, Circuit, End, Fibre, Finding, Grid, Line,
-    Plan, Refusal, Rule,
+    check, check_bytes, mend, plan, plan_bytes, Assignment, Circuit, End, Fibre, Finding, Grid,
+    Line, Plan, Refusal, ReportLine, Rule,
 };
 use inputs::{encode, Family, Numbers, Rng};
 
@@ -277,6 +277,121 @@ fn circuits_added_to_many_fibres() {
     }
 }
 
+/// A line of a report: circuit, fibre and wavelength found, fibre and wavelength given.
+fn report_line(circuit: u32, found: [u16; 2], given: [u16; 2]) -> ReportLine {
+    ReportLine {
+        circuit,
+        found_fibre: found[0],
+        found_wavelength: found[1],
+        given_fibre: given[0],
+        given_wavelength: given[1],
+    }
+}
+
+/// What becomes of the register of the listing after a change, and the report.
+fn mended(change: impl Fn(&mut Plan)) -> Result<(Plan, Vec<ReportLine>), Refusal> {
+    let (line, circuits, mut register) = listing();
+    change(&mut register);
+    let mended = mend(line, &circuits, &register.fibres, &register.assignments)?;
+    let Plan { total, floor, .. } = mended.plan;
+    let (fibres, assignments) = (&mended.plan.fibres, &mended.plan.assignments);
+    let found = check(line, &circuits, fibres, assignments)?;
+    let length = total;
+    assert_eq!(found, Finding::Yes { length, floor });
+    Ok((mended.plan, mended.report))
+}
+
+#[test]
+fn the_register_of_the_listing_mended() {
+    let (_, _, plan) = listing();
+    assert_eq!(mended(|_| ()), Ok((plan.clone(), vec![])));
+    // Circuit 10 has the place of 30, which then gets that of 10; what stands for 20 names nobody.
+    let (new, report) = mended(|register| {
+        register.assignments[0].wavelength = 1;
+        register.assignments[1].circuit = 0;
+    })
+    .unwrap();
+    let lines = [
+        report_line(20, [2, 1], [2, 1]),
+        report_line(30, [1, 1], [1, 2]),
+    ];
+    assert_eq!(report, lines);
+    assert_eq!((&new.fibres, new.total), (&plan.fibres, plan.total));
+    let places = new.assignments.iter().map(|a| (a.fibre, a.wavelength));
+    assert!(places.eq([(1, 1), (2, 1), (1, 2), (1, 2)]));
+    assert!(new
+        .assignments
+        .iter()
+        .map(|a| a.circuit)
+        .eq([10, 20, 30, 40]));
+}
+
+#[test]
+fn a_fibre_that_is_lost_is_planned_again() {
+    let (_, _, plan) = listing();
+    let (new, report) = mended(|register| register.fibres.truncate(1)).unwrap();
+    assert_eq!(report, [report_line(20, [2, 1], [2, 1])]);
+    // The layer is counted from 1 again.
+    let second = Fibre {
+        layer: 1,
+        ..plan.fibres[1]
+    };
+    assert_eq!(new.fibres, [plan.fibres[0], second]);
+    assert_eq!(new.assignments, plan.assignments);
+}
+
+#[test]
+fn refusals_of_a_mending() {
+    let refused = |change: fn(&mut Plan)| mended(change).unwrap_err();
+    let not_one_each = Refusal::AssignmentList;
+    assert_eq!(refused(|r| r.assignments.truncate(3)), not_one_each);
+    assert_eq!(
+        refused(|r| r.assignments.extend_from_within(..1)),
+        not_one_each
+    );
+    assert_eq!(
+        refused(|r| r.assignments = r.assignments.repeat(600)),
+        not_one_each
+    );
+    let place = 2;
+    let faulty = Refusal::FibreRecord { place };
+    assert_eq!(refused(|r| r.fibres[1].number = 3), faulty);
+    assert_eq!(refused(|r| r.fibres[1].last = 6), faulty);
+    let (line, circuits, plan) = listing();
+    let answer = |line, circuits: &[Circuit]| {
+        let assignments = plan.assignments.repeat(circuits.len().div_ceil(4));
+        let assignments = &assignments[..circuits.len()];
+        mend(line, circuits, &plan.fibres, assignments).unwrap_err()
+    };
+    let end = End::LastPastLine;
+    let short = Line { links: 4, ..line };
+    assert_eq!(answer(short, &circuits), Refusal::Ends { place, end });
+    let none = Line { links: 0, ..line };
+    assert_eq!(answer(none, &circuits), Refusal::Links);
+    let many = circuits.repeat(600);
+    assert_eq!(answer(line, &many), Refusal::Circuits);
+    assert_eq!(answer(line, &many[..5]), Refusal::Repeated { place: 5 });
+}
+
+#[test]
+fn a_register_of_many_fibres() {
+    for (many, sound) in [(2047, true), (2048, true), (2049, false), (5000, false)] {
+        let dark = |number| Fibre {
+            number,
+            first: 5,
+            last: 5,
+            layer: 0,
+        };
+        let answer = mended(|register| {
+            register.fibres.extend((3..=many).map(dark));
+            register.assignments[2].fibre = 0;
+        });
+        let lines = answer.map(|(plan, report)| (plan.fibres.len(), report.len()));
+        let whole = Ok((usize::from(many), 1));
+        assert_eq!(lines, if sound { whole } else { Err(Refusal::Fibres) });
+    }
+}
+
 #[test]
 fn the_bytes_as_types() {
     let list = Family::Random.circuits(300, 200, Numbers::Shuffled, &mut Rng::new(7));
@@ -393,7 +508,19 @@ fn refusals_as_text() {
     );
     assert_eq!(
         Refusal::AssignmentList.to_string(),
-        "refusal 16, list 2: the assignment list is not whole records, or more than 2,048"
+        "refusal 16, list 2: the assignment list is not whole records, or more than 2,048, or, to be mended, not one a circuit"
+    );
+    assert_eq!(
+        Refusal::Fibres.to_string(),
+        "refusal 20: there are more than 2,048 fibres"
+    );
+    assert_eq!(
+        Refusal::FibreRecord { place: 3 }.to_string(),
+        "refusal 20, fibre 3: its number is not its place, or first link 0 or past the last, or last link past the line"
+    );
+    assert_eq!(
+        Refusal::ReportRoom.to_string(),
+        "refusal 23: the report is too short"
     );
     assert_eq!(
         Refusal::OldPlan.to_string(),
@@ -430,6 +557,13 @@ fn fibres_and_assignments_are_read_back() {
     };
     assert_eq!(assignment.to_bytes(), [4, 3, 2, 1, 6, 5, 8, 7]);
     assert_eq!(Assignment::from_bytes(&assignment.to_bytes()), assignment);
+}
+
+#[test]
+fn a_line_of_a_report_is_read() {
+    let bytes = [4, 3, 2, 1, 6, 5, 8, 7, 10, 9, 12, 11];
+    let line = report_line(0x0102_0304, [0x0506, 0x0708], [0x090A, 0x0B0C]);
+    assert_eq!(ReportLine::from_bytes(&bytes), line);
 }
 
 #[test]

@@ -73,8 +73,8 @@ fn strands(plan: &check::Plan, slip: Slip) -> Vec<Strand> {
     fibres.collect()
 }
 
-/// The new circuits in the order of their turns.
-fn turns(added: &[Circuit], slip: Slip) -> Vec<usize> {
+/// Circuits in the order of their turns, as indices.
+pub fn turns(added: &[Circuit], slip: Slip) -> Vec<usize> {
     let mut order: Vec<usize> = (0..added.len()).collect();
     match slip {
         Slip::TurnsByPlace => (),
@@ -117,7 +117,7 @@ fn plan_of_left(n: usize, w: usize, left: &[Circuit], slip: Slip) -> Plan {
 }
 
 /// The fibres that are added, and the places of all new circuits: numbers of added fibres run on from the old ones.
-fn added_plan(line: Line, plan: &check::Plan, added: &[Circuit], slip: Slip) -> Plan {
+pub fn added_plan(line: Line, plan: &check::Plan, added: &[Circuit], slip: Slip) -> Plan {
     let mut strands = strands(plan, slip);
     let mut places = on_old_fibres(&mut strands, line.w, added, slip);
     let left = places
@@ -148,6 +148,17 @@ fn added_plan(line: Line, plan: &check::Plan, added: &[Circuit], slip: Slip) -> 
     }
 }
 
+/// Writes fibres behind so many old ones.
+pub fn write_fibres(old: usize, added: &[Fibre], fibres: &mut [u8], slip: Slip) {
+    for (i, fibre) in added.iter().enumerate() {
+        let number = match slip {
+            Slip::NumberedFromOne => i + 1,
+            _ => old + i + 1,
+        };
+        records::put(fibres, old + i, fibre.record(number));
+    }
+}
+
 /// Writes what is added behind the old records.
 fn write(
     old: Old,
@@ -157,13 +168,7 @@ fn write(
     assignments: &mut [u8],
     slip: Slip,
 ) {
-    for (i, fibre) in plan.fibres.iter().enumerate() {
-        let number = match slip {
-            Slip::NumberedFromOne => i + 1,
-            _ => old.fibres + i + 1,
-        };
-        records::put(fibres, old.fibres + i, fibre.record(number));
-    }
+    write_fibres(old.fibres, &plan.fibres, fibres, slip);
     let mut order: Vec<usize> = (0..added.len()).collect();
     if slip == Slip::WrittenByNumber {
         order.sort_by_key(|&j| added[j].number);
@@ -229,12 +234,23 @@ pub fn add_with(
         Slip::FloorOfNewFile => &added,
         _ => &both,
     };
+    Ok(counts(line, &plan, &more.fibres, counted, slip))
+}
+
+/// The numbers of a whole plan: its old fibres, those that are added, and the floor of some circuits.
+pub fn counts(
+    line: Line,
+    old: &check::Plan,
+    added: &[Fibre],
+    counted: &[Circuit],
+    slip: Slip,
+) -> Counts {
     let is_counted = |_: &&Fibre| slip != Slip::NumbersOfNewFibres;
-    let old_fibres = plan.fibres.iter().map(|(_, f)| f).filter(is_counted);
-    let all: Vec<&Fibre> = old_fibres.chain(&more.fibres).collect();
-    Ok(Counts {
+    let old_fibres = old.fibres.iter().map(|(_, f)| f).filter(is_counted);
+    let all: Vec<&Fibre> = old_fibres.chain(added).collect();
+    Counts {
         fibres: all.len(),
         total: all.iter().map(|f| f.length(slip)).sum(),
         floor: needs(line.n, line.w, counted, slip).iter().sum(),
-    })
+    }
 }

@@ -56,6 +56,19 @@ impl Plan {
         self.fault().is_none()
     }
 
+    /// The same with only some of its circuits and their assignments.
+    pub fn with_only(&self, some: &[bool]) -> Self {
+        let of_some = |at: &usize| some[*at];
+        let indices: Vec<usize> = (0..self.circuits.len()).filter(of_some).collect();
+        Self {
+            line: self.line,
+            circuits: indices.iter().map(|&at| self.circuits[at]).collect(),
+            fibres: self.fibres.clone(),
+            assignments: indices.iter().map(|&at| self.assignments[at]).collect(),
+            slip: self.slip,
+        }
+    }
+
     /// Whether the fibre at an index breaks rule 1 or 2.
     fn fibre_breaks(&self, at: usize, rule: u32) -> bool {
         let (number, fibre) = &self.fibres[at];
@@ -79,14 +92,14 @@ impl Plan {
     }
 
     /// Whether the assignments at two indices have one fibre and wavelength, and their circuits share a link.
-    fn clash(&self, one: usize, two: usize) -> bool {
+    pub fn clash(&self, one: usize, two: usize) -> bool {
         let alike = self.assignments[one].1 == self.assignments[two].1;
         let overlap = || self.circuits[one].overlaps(&self.circuits[two]);
         alike && (self.slip == Slip::ClashWithoutOverlap || overlap())
     }
 
     /// Whether the assignment at an index breaks a rule from 4 to 8.
-    fn assignment_breaks(&self, at: usize, rule: u32) -> bool {
+    pub fn assignment_breaks(&self, at: usize, rule: u32) -> bool {
         let circuit = &self.circuits[at];
         let (number, place) = self.assignments[at];
         let fibre = self.fibre(place.fibre);
@@ -119,7 +132,7 @@ impl Plan {
     }
 
     /// The first faulty fibre and its lowest rule.
-    fn faulty_fibre(&self) -> Option<(u32, usize)> {
+    pub fn faulty_fibre(&self) -> Option<(u32, usize)> {
         let found = self.first_fault(self.fibres.len(), 1..=2, Self::fibre_breaks);
         found.map(|(rule, at)| (rule, at + 1))
     }

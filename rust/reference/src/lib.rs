@@ -7,6 +7,7 @@ mod add;
 mod check;
 mod grid;
 mod lit;
+mod mend;
 mod paired;
 mod records;
 mod sheet;
@@ -21,10 +22,15 @@ pub use check::check_with;
 pub use check::{check, Finding};
 pub use grid::frequency;
 pub use lit::lit;
+#[doc(hidden)]
+pub use mend::mend_with;
+pub use mend::{mend, Mended};
 pub use paired::paired;
 pub use records::Circuit;
 #[doc(hidden)]
-pub use slips::{Slip, ADD_SLIPS, BASE_SLIPS, CHECK_SLIPS, END_SLIPS, GRID_SLIPS, LIT_SLIPS};
+pub use slips::{
+    Slip, ADD_SLIPS, BASE_SLIPS, CHECK_SLIPS, END_SLIPS, GRID_SLIPS, LIT_SLIPS, MEND_SLIPS,
+};
 
 use std::ops::RangeInclusive;
 

@@ -135,6 +135,50 @@ pub enum Slip {
     FourteenBeforeThirteen,
     /// Test 14 comes before test 8.
     FourteenBeforeEight,
+    /// Circuits are kept and placed in one pass.
+    OnePass,
+    /// An assignment is looked for by its circuit number, wherever it stands.
+    FoundByNumber,
+    /// Assignments are kept in file order.
+    KeptByPlace,
+    /// Assignments are kept by falling number.
+    KeptFalling,
+    /// An assignment that names another circuit is kept if that is all that is wrong with it.
+    RuleFourNotSeen,
+    /// What clashes with a sound assignment is not kept, even if that one is not kept either.
+    ClashWithNotKept,
+    /// What is found in a record that is not kept counts as taken.
+    FoundCountsAsTaken,
+    /// The number in a record that is not kept stays.
+    NumberNotMended,
+    /// Test 9 is run as well.
+    NineTested,
+    /// Test 16 comes before test 10.
+    SixteenBeforeTen,
+    /// More assignments than circuits are allowed.
+    MoreAssignments,
+    /// Refusal 16 has no place.
+    SixteenWithoutPlace,
+    /// Test 20 comes before test 16.
+    TwentyBeforeSixteen,
+    /// Refusal 20 has no place.
+    TwentyWithoutPlace,
+    /// Refusal 20 for too many fibres has the place of the first that is too many.
+    PlaceOfTooMany,
+    /// Test 23 comes before test 20.
+    TwentyThreeBeforeTwenty,
+    /// Test 23 asks for 12 bytes for each line that is written.
+    ReportForLines,
+    /// The report has a line for a circuit that is kept, too.
+    LineForKept,
+    /// The lines stand in file order.
+    LinesByPlace,
+    /// A line has what is given in place of what was found.
+    GivenForFound,
+    /// A line has the circuit number that was found in the record.
+    CircuitOfRecord,
+    /// The rest of the report is zeroed.
+    ReportZeroed,
 }
 
 /// The mistakes with the base.
@@ -217,4 +261,53 @@ pub const ADD_SLIPS: [Slip; 31] = [
     Slip::ThirteenBeforeTen,
     Slip::FourteenBeforeThirteen,
     Slip::FourteenBeforeEight,
+];
+
+/// The mistakes with R-11, and those with that it can have as well.
+pub const MEND_SLIPS: [Slip; 45] = [
+    Slip::OnePass,
+    Slip::FoundByNumber,
+    Slip::KeptByPlace,
+    Slip::KeptFalling,
+    Slip::RuleFourNotSeen,
+    Slip::ClashWithNotKept,
+    Slip::FoundCountsAsTaken,
+    Slip::NumberNotMended,
+    Slip::RoomForPairs,
+    Slip::NineTested,
+    Slip::SixteenBeforeTen,
+    Slip::MoreAssignments,
+    Slip::SixteenWithoutPlace,
+    Slip::TwentyBeforeSixteen,
+    Slip::TwentyWithoutPlace,
+    Slip::PlaceOfTooMany,
+    Slip::TwentyThreeBeforeTwenty,
+    Slip::ReportForLines,
+    Slip::LineForKept,
+    Slip::LinesByPlace,
+    Slip::GivenForFound,
+    Slip::CircuitOfRecord,
+    Slip::ReportZeroed,
+    Slip::HighestWavelength,
+    Slip::FirstThatSpans,
+    Slip::LowestWavelengthOfAll,
+    Slip::WholeFibreTaken,
+    Slip::OldNotSeen,
+    Slip::TurnsByPlace,
+    Slip::TurnsFalling,
+    Slip::OneByOne,
+    Slip::LayersCountedOn,
+    Slip::NumberedFromOne,
+    Slip::FloorOfNewFile,
+    Slip::NumbersOfNewFibres,
+    Slip::RoomWraps,
+    Slip::OneOldFibreLess,
+    Slip::OneOldFibreMore,
+    Slip::WorkNotZeroed,
+    Slip::FourBeforeTwelve,
+    Slip::RuleByRule,
+    Slip::LayerNotIgnored,
+    Slip::OneWavelengthMore,
+    Slip::ClashWithoutOverlap,
+    Slip::LastLessFirst,
 ];

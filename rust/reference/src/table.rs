@@ -2,7 +2,7 @@
 use crate::check::Plan;
 use crate::grid::limit;
 use crate::records::Circuit;
-use crate::{Line, Old, Refused, Slip};
+use crate::{mend, Line, Old, Refused, Slip};
 use std::collections::HashSet;
 
 /// A refusal that applies as a whole.
@@ -208,6 +208,15 @@ fn accepted_new([old, new]: [&[Circuit]; 2], slip: Slip) -> Result<(), Refused> 
     counted_on(fourteen, before)
 }
 
+/// The most fibres of a plan that is added to or mended.
+fn most_old_fibres(slip: Slip) -> usize {
+    match slip {
+        Slip::OneOldFibreLess => 2047,
+        Slip::OneOldFibreMore => 2049,
+        _ => 2048,
+    }
+}
+
 /// Test 13: the old plan, which stands at the start of the two lists.
 fn accepted_old(
     line: Line,
@@ -216,12 +225,7 @@ fn accepted_old(
     [fibres, assignments]: [&[u8]; 2],
     slip: Slip,
 ) -> Result<Plan, Refused> {
-    let most = match slip {
-        Slip::OneOldFibreLess => 2047,
-        Slip::OneOldFibreMore => 2049,
-        _ => 2048,
-    };
-    unless(old.fibres <= most, 13)?;
+    unless(old.fibres <= most_old_fibres(slip), 13)?;
     unless(old.assignments == circuits.len(), 13)?;
     let fibres = &fibres[..8 * old.fibres];
     let assignments = &assignments[..8 * old.assignments];
@@ -265,4 +269,95 @@ pub fn accepted_addition(
     let plan = thirteen?;
     fourteen?;
     Ok((plan, new))
+}
+
+/// Test 16, by R-11: the assignments are whole records, one a circuit.
+fn accepted_register(bytes: usize, circuits: usize, slip: Slip) -> Result<(), Refused> {
+    let holds = match slip {
+        Slip::MoreAssignments => bytes.is_multiple_of(8) && bytes / 8 >= circuits,
+        _ => bytes == 8 * circuits,
+    };
+    let place = match slip {
+        Slip::SixteenWithoutPlace => 0,
+        _ => 2,
+    };
+    unless(holds, 16).map_err(|refused| Refused { place, ..refused })
+}
+
+/// Test 20: at most 2,048 fibres, and none that breaks R-7's rule 1 or 2.
+fn accepted_fibres(
+    line: Line,
+    old_fibres: usize,
+    fibres: &[u8],
+    slip: Slip,
+) -> Result<(), Refused> {
+    let most = most_old_fibres(slip);
+    let refused = |place| Refused {
+        number: 20,
+        place,
+        end: 0,
+    };
+    if old_fibres > most {
+        let first_too_many = usize::from(slip == Slip::PlaceOfTooMany) * (most + 1);
+        return Err(refused(first_too_many));
+    }
+    let plan = Plan::read(line, vec![], &fibres[..8 * old_fibres], &[], slip);
+    match plan.faulty_fibre() {
+        None => Ok(()),
+        Some(_) if slip == Slip::TwentyWithoutPlace => Err(refused(0)),
+        Some((_, place)) => Err(refused(place)),
+    }
+}
+
+/// Tests 8, 10 and 16 of R-11, for so many circuits and fibres; `lengths` are those of the fibres, the assignments and the work area.
+fn accepted_rooms(
+    n: usize,
+    circuits: usize,
+    old_fibres: usize,
+    [fibres, assignments, work]: [usize; 3],
+    slip: Slip,
+) -> Result<(), Refused> {
+    let asked = match slip {
+        Slip::RoomForPairs => 2 * circuits,
+        _ => circuits,
+    };
+    unless(has_room(fibres, old_fibres, asked, slip), 8)?;
+    unless(slip != Slip::NineTested || assignments >= 8 * circuits, 9)?;
+    let ten = unless(work >= 4 * n + 4 * circuits, 10);
+    let sixteen = accepted_register(assignments, circuits, slip);
+    match slip {
+        Slip::SixteenBeforeTen => sixteen.and(ten),
+        _ => ten.and(sixteen),
+    }
+}
+
+/// The register that no test of R-11 refuses; the lent areas are only looked at.
+pub fn accepted_mending(
+    line: Line,
+    file: &[u8],
+    old_fibres: usize,
+    [fibres, assignments, report, work]: [&[u8]; 4],
+    slip: Slip,
+) -> Result<Plan, Refused> {
+    let circuits = accepted_circuits(line, file, slip)?;
+    let many = circuits.len();
+    let lengths = [fibres, assignments, work].map(<[u8]>::len);
+    let rooms = accepted_rooms(line.n, many, old_fibres, lengths, slip);
+    let twenty = || accepted_fibres(line, old_fibres, fibres, slip);
+    if slip == Slip::TwentyBeforeSixteen && rooms.is_err_and(|refused| refused.number == 16) {
+        twenty()?;
+    }
+    rooms?;
+    let twenty_three = |lines: usize| unless(report.len() >= 12 * lines, 23);
+    if slip == Slip::TwentyThreeBeforeTwenty {
+        twenty_three(many)?;
+    }
+    twenty()?;
+    let (fibres, assignments) = (&fibres[..8 * old_fibres], &assignments[..8 * many]);
+    let register = Plan::read(line, circuits, fibres, assignments, slip);
+    twenty_three(match slip {
+        Slip::ReportForLines => mend::lines(&register, slip),
+        _ => many,
+    })?;
+    Ok(register)
 }

@@ -1,4 +1,4 @@
-//! Times of the proved planner, additions and check beside those of the same in plain Rust, as Markdown.
+//! Times of the proved planner, additions, mendings and check beside those of the same in plain Rust, as Markdown.
 //!
 //! `speed [ROUNDS]`: the best of so many rounds is taken, 7 if none is named. Where `FIBRE_PLAN_BEFORE` names another
 //! archive, that one is measured too.
@@ -7,8 +7,11 @@ mod baseline;
 mod before;
 mod case;
 mod clock;
+mod mending;
 mod plain_add;
 mod plain_check;
+mod plain_mend;
+mod ways;
 
 use before::Before;
 use case::{Case, Times};
@@ -20,6 +23,8 @@ const CIRCUITS: usize = 2048;
 const WAVELENGTHS: [usize; 4] = [1, 4, 16, 40];
 /// How many of the circuits are old where the others are added.
 const OLD: [usize; 2] = [1024, 1920];
+/// How many of a hundred assignments are damaged where a register is mended.
+const DAMAGED: [usize; 3] = [1, 5, 50];
 const NUMBERS: [Numbers; 2] = [Numbers::Rising, Numbers::Shuffled];
 
 /// The cases at full size.
@@ -140,18 +145,17 @@ fn print_checks(measured: &[(Case, Times)]) {
     );
 }
 
-/// Our time for an addition over that of plain Rust, which finds places in two ways.
-fn print_additions(old: usize, rounds: usize) {
-    let measure = |case: Case| (case, addition::measure(&case, old, rounds));
-    let measured: Vec<(Case, addition::Times)> = full_size().into_iter().map(measure).collect();
-    println!(
-        "### {} circuits added to {old}: ours over plain Rust's\n",
-        CIRCUITS - old
-    );
-    let ratios: [fn(&addition::Times) -> f64; 3] = [
-        addition::Times::ratio_to_lists,
-        addition::Times::ratio_to_hashing,
-        addition::Times::ratio_to_faster,
+/// Our time for an addition or a mending over that of plain Rust, which finds places in two ways.
+fn print_ways(what: &str, measure: impl Fn(&Case) -> ways::Times) {
+    let measured: Vec<(Case, ways::Times)> = full_size()
+        .into_iter()
+        .map(|case| (case, measure(&case)))
+        .collect();
+    println!("\n### {what}: ours over plain Rust's\n");
+    let ratios: [fn(&ways::Times) -> f64; 3] = [
+        ways::Times::ratio_to_lists,
+        ways::Times::ratio_to_hashing,
+        ways::Times::ratio_to_faster,
     ];
     let names = ["with lists", "with a `HashMap`", "the faster of the two"];
     let columns = names.map(|name| format!(" {name}, geometric mean | worst |"));
@@ -208,8 +212,12 @@ fn main() {
     println!();
     print_checks(&measured);
     for old in OLD {
-        println!();
-        print_additions(old, rounds);
+        let what = format!("{} circuits added to {old}", CIRCUITS - old);
+        print_ways(&what, |case| addition::measure(case, old, rounds));
+    }
+    for share in DAMAGED {
+        let what = format!("A register mended, {share} % of the assignments damaged");
+        print_ways(&what, |case| mending::measure(case, share, rounds));
     }
     println!("\n### Growth: ours in µs, and the ratio; numbers shuffled, w = 4\n");
     print_growth(

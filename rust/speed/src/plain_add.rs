@@ -14,18 +14,29 @@ pub struct Old<'a> {
     pub assignments: usize,
 }
 
-/// The old circuits, what the old fibres are, and where each old circuit is carried.
-pub struct OldPlan<'a> {
-    circuits: &'a [Circuit],
+/// What the old fibres are, and where each old circuit is carried.
+struct OldPlan {
     fibres: Vec<Fibre>,
     assignments: Vec<Assignment>,
 }
 
-/// Fibre number and wavelength of each new circuit that an old fibre has a place for, in file order.
-type Places = Vec<Option<(u16, u16)>>;
+/// Fibre number and wavelength of each circuit that an old fibre has a place for.
+pub type Places = Vec<Option<(u16, u16)>>;
 
-/// A way to find the lowest places; the new circuits stand by rising number.
-type Placing = fn(w: usize, &OldPlan, &[&Circuit]) -> Places;
+/// What the old fibres carry.
+pub trait Carried {
+    /// Nothing, on so many fibres.
+    fn nothing(fibres: usize) -> Self;
+
+    /// Puts a circuit on a fibre, with a wavelength.
+    fn put(&mut self, c: &Circuit, place: (u16, u16));
+
+    /// Whether no circuit with this fibre and wavelength shares a link with a circuit.
+    fn is_free(&self, c: &Circuit, place: (u16, u16)) -> bool;
+
+    /// The lowest fibre that spans a circuit and has a wavelength free there, and the lowest such wavelength.
+    fn lowest(&self, w: usize, fibres: &[Fibre], c: &Circuit) -> Option<(u16, u16)>;
+}
 
 /// What a circuit has on a fibre.
 struct Rider {
@@ -34,63 +45,84 @@ struct Rider {
     wavelength: u16,
 }
 
-/// By the circuits of each fibre, and a bit for each wavelength.
-pub fn by_lists(w: usize, old: &OldPlan, order: &[&Circuit]) -> Places {
-    let mut riders: Vec<Vec<Rider>> = old.fibres.iter().map(|_| Vec::new()).collect();
-    let on = |c: &Circuit, wavelength| Rider {
-        first: c.first,
-        last: c.last,
-        wavelength,
-    };
-    for (c, a) in old.circuits.iter().zip(&old.assignments) {
-        riders[usize::from(a.fibre) - 1].push(on(c, a.wavelength));
+impl Rider {
+    fn meets(&self, c: &Circuit) -> bool {
+        self.first <= c.last && c.first <= self.last
     }
-    let mut places = vec![None; order.len()];
-    for c in order {
-        for (number, (fibre, riders)) in (1..).zip(old.fibres.iter().zip(&mut riders)) {
+}
+
+/// The circuits of each fibre; where one is looked for, a bit for each wavelength.
+pub struct Lists(Vec<Vec<Rider>>);
+
+impl Carried for Lists {
+    fn nothing(fibres: usize) -> Self {
+        Self((0..fibres).map(|_| Vec::new()).collect())
+    }
+
+    fn put(&mut self, c: &Circuit, (fibre, wavelength): (u16, u16)) {
+        self.0[usize::from(fibre) - 1].push(Rider {
+            first: c.first,
+            last: c.last,
+            wavelength,
+        });
+    }
+
+    fn is_free(&self, c: &Circuit, (fibre, wavelength): (u16, u16)) -> bool {
+        let mut riders = self.0[usize::from(fibre) - 1].iter();
+        !riders.any(|r| r.wavelength == wavelength && r.meets(c))
+    }
+
+    fn lowest(&self, w: usize, fibres: &[Fibre], c: &Circuit) -> Option<(u16, u16)> {
+        for (number, (fibre, riders)) in (1..).zip(fibres.iter().zip(&self.0)) {
             if c.first < fibre.first || fibre.last < c.last {
                 continue;
             }
-            let there = riders
-                .iter()
-                .filter(|r| r.first <= c.last && c.first <= r.last);
+            let there = riders.iter().filter(|r| r.meets(c));
             // There is no wavelength 0.
             let busy = there.fold(1u128, |busy, r| busy | 1 << r.wavelength);
             let lowest = busy.trailing_ones() as u16;
             if usize::from(lowest) <= w {
-                riders.push(on(c, lowest));
-                places[c.at()] = Some((number, lowest));
-                break;
+                return Some((number, lowest));
             }
         }
+        None
     }
-    places
 }
 
-/// By the circuits of each fibre and wavelength.
-pub fn by_hashing(w: usize, old: &OldPlan, order: &[&Circuit]) -> Places {
-    let mut carried: HashMap<(u16, u16), Vec<(u16, u16)>> = HashMap::new();
-    for (c, a) in old.circuits.iter().zip(&old.assignments) {
-        let there = carried.entry((a.fibre, a.wavelength)).or_default();
-        there.push((c.first, c.last));
+/// First and last link of the circuits of each fibre and wavelength.
+pub struct Hashed(HashMap<(u16, u16), Vec<(u16, u16)>>);
+
+impl Carried for Hashed {
+    fn nothing(_: usize) -> Self {
+        Self(HashMap::new())
     }
-    let mut places = vec![None; order.len()];
-    for c in order {
+
+    fn put(&mut self, c: &Circuit, place: (u16, u16)) {
+        self.0.entry(place).or_default().push((c.first, c.last));
+    }
+
+    fn is_free(&self, c: &Circuit, place: (u16, u16)) -> bool {
+        let mut there = self.0.get(&place).into_iter().flatten();
+        !there.any(|&(first, last)| first <= c.last && c.first <= last)
+    }
+
+    fn lowest(&self, w: usize, fibres: &[Fibre], c: &Circuit) -> Option<(u16, u16)> {
         let spanning = (1..)
-            .zip(&old.fibres)
+            .zip(fibres)
             .filter(|(_, f)| f.first <= c.first && c.last <= f.last);
         let mut each = spanning.flat_map(|(number, _)| (1..=w as u16).map(move |v| (number, v)));
-        let is_free = |place: &(u16, u16)| {
-            let mut there = carried.get(place).into_iter().flatten();
-            !there.any(|&(first, last)| first <= c.last && c.first <= last)
-        };
-        let found = each.find(is_free);
-        if let Some(place) = found {
-            carried.entry(place).or_default().push((c.first, c.last));
-        }
-        places[c.at()] = found;
+        each.find(|place| self.is_free(c, *place))
     }
-    places
+}
+
+/// Gives circuits, which stand by rising number, the places that old fibres have.
+pub fn place<C: Carried>(carried: &mut C, w: usize, fibres: &[Fibre], order: &[Circuit]) -> Places {
+    let mut found = |c: &Circuit| {
+        let place = carried.lowest(w, fibres, c)?;
+        carried.put(c, place);
+        Some(place)
+    };
+    order.iter().map(&mut found).collect()
 }
 
 /// A refusal's place, counted on from so many records.
@@ -123,62 +155,60 @@ fn accepted_files(
 }
 
 /// Whether a list of so many bytes has room for so many old records and some more.
-fn has_room(bytes: usize, old: usize, more: usize) -> bool {
+pub fn has_room(bytes: usize, old: usize, more: usize) -> bool {
     let records = old.checked_add(more);
     let needed = records.and_then(|records| records.checked_mul(8));
     needed.is_some_and(|needed| needed <= bytes)
 }
 
 /// The old plan, if test 13 does not refuse it.
-fn accepted_plan<'a>(
+fn accepted_plan(
     [n, w]: [usize; 2],
     old: Old,
-    circuits: &'a [Circuit],
+    circuits: &[Circuit],
     [fibres, assignments]: [&[u8]; 2],
-) -> Result<OldPlan<'a>, Refused> {
+) -> Result<OldPlan, Refused> {
     unless(old.fibres <= 2048 && old.assignments == circuits.len(), 13)?;
     let fibres = read_fibres(&fibres[..8 * old.fibres]);
     let assignments = read_assignments(&assignments[..8 * old.assignments]);
     let broken = fault((n, w), circuits, &fibres, &assignments, by_sorting);
     unless(broken.is_none(), 13)?;
     Ok(OldPlan {
-        circuits,
         fibres,
         assignments,
     })
 }
 
-/// The new circuits that have no place, as a file of their own.
-fn left(new: &[Circuit], places: &Places) -> Vec<Circuit> {
-    let without = new.iter().filter(|c| places[c.at()].is_none());
-    let place = |(at, c): (usize, &Circuit)| Circuit {
+/// The circuits that have no place, as a file of their own.
+pub fn left(circuits: &[Circuit], places: &Places) -> Vec<Circuit> {
+    let without = circuits.iter().zip(places).filter(|(_, p)| p.is_none());
+    let place = |(at, (c, _)): (usize, (&Circuit, _))| Circuit {
         place: at as u16,
         ..*c
     };
     without.enumerate().map(place).collect()
 }
 
-/// Writes the new assignments behind the old ones.
-fn write_assignments(list: &mut [u8], old: Old, new: &[Circuit], places: &Places, rest: &Plan) {
+/// Fibre number and wavelength of each circuit: its place, or what the plan of those that are left gives it.
+pub fn given(old_fibres: usize, places: &Places, rest: &Plan) -> Vec<(u16, u16)> {
     let mut of_left = 0..;
-    for c in new {
-        let (fibre, wavelength) = places[c.at()].unwrap_or_else(|| {
-            let (fibre, wavelength) = rest.place(of_left.next().unwrap_or(0));
-            ((old.fibres + fibre) as u16, wavelength as u16)
-        });
-        write_assignment(list, old.assignments + c.at(), c, fibre, wavelength);
-    }
+    let planned = |at: usize| {
+        let (fibre, wavelength) = rest.place(at);
+        ((old_fibres + fibre) as u16, wavelength as u16)
+    };
+    let each = places.iter().copied();
+    each.map(|place| place.unwrap_or_else(|| planned(of_left.next().unwrap_or(0))))
+        .collect()
 }
 
 /// Adds circuits to the plan at the start of two lists.
-pub fn add(
+pub fn add<C: Carried>(
     [n, w, grid]: [usize; 3],
     old: Old,
     added: &[u8],
     fibres: &mut [u8],
     assignments: &mut [u8],
     work: &mut [u8],
-    placing: Placing,
 ) -> Answer {
     let ([circuits, new], old_numbers) = accepted_files([n, w, grid], old.circuits, added)?;
     unless(has_room(fibres.len(), old.fibres, new.len()), 8)?;
@@ -189,13 +219,19 @@ pub fn add(
     let repeated = new.iter().position(|c| old_numbers.contains(&c.number));
     counted_on(unless_at(repeated, 14), circuits.len())?;
 
-    let mut order: Vec<&Circuit> = new.iter().collect();
+    let mut order = new.clone();
     order.sort_by_key(|c| c.number);
-    let places = placing(w, &plan, &order);
-    let left = left(&new, &places);
+    let mut carried = C::nothing(plan.fibres.len());
+    for (c, a) in circuits.iter().zip(&plan.assignments) {
+        carried.put(c, (a.fibre, a.wavelength));
+    }
+    let places = place(&mut carried, w, &plan.fibres, &order);
+    let left = left(&order, &places);
     let rest = settle(w, &left, &needs(n, w, &left));
     write_fibres(fibres, old.fibres, &rest.fibres);
-    write_assignments(assignments, old, &new, &places, &rest);
+    for (c, (fibre, wavelength)) in order.iter().zip(given(old.fibres, &places, &rest)) {
+        write_assignment(assignments, old.assignments + c.at(), c, fibre, wavelength);
+    }
     work[..zeroed].fill(0);
     let old_total: usize = plan.fibres.iter().map(Fibre::length).sum();
     let new_total: usize = rest.fibres.iter().map(|f| f.last - f.first + 1).sum();

@@ -56,7 +56,7 @@ pub fn read_assignments(list: &[u8]) -> Vec<Assignment> {
 }
 
 /// Rule 1 or 2, if the fibre at an index breaks one.
-fn fibre_fault(n: usize, at: usize, fibre: &Fibre) -> Option<u32> {
+pub fn fibre_fault(n: usize, at: usize, fibre: &Fibre) -> Option<u32> {
     if usize::from(fibre.number) != at + 1 {
         Some(1)
     } else if fibre.first == 0 || fibre.last < fibre.first || n < usize::from(fibre.last) {
@@ -67,7 +67,7 @@ fn fibre_fault(n: usize, at: usize, fibre: &Fibre) -> Option<u32> {
 }
 
 /// The lowest of rules 4 to 7 that an assignment breaks, if any.
-fn assignment_fault(
+pub fn assignment_fault(
     w: usize,
     circuit: &Circuit,
     fibres: &[Fibre],

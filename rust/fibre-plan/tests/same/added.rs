@@ -1,5 +1,5 @@
 //! Calls that add circuits to a plan: to ours, to valid ones of somebody else, and damaged ones.
-use crate::areas::{Answer, Input, Seen, GUARD};
+use crate::areas::{between_guards, filled, Answer, Input, Seen};
 use crate::draws::{self, set_half, Size, LARGE, SMALL};
 use crate::pages::ReadOnly;
 use crate::submitted::{self, contractors, ours, with_fibres, Submitted};
@@ -44,28 +44,16 @@ impl Addition {
         [&self.old.circuits[..], &self.added].concat()
     }
 
-    /// Where each lent area stands between its guards: it may start at any address.
+    /// Where each lent area stands between its guards.
     pub fn lent(&self) -> [Range<usize>; 3] {
-        let from = GUARD + (self.old.line.n ^ (self.both().len() / 8)) % 8;
-        self.lengths.map(|length| from..from + length)
+        between_guards(self.lengths, self.old.line.n, self.both().len() / 8)
     }
 
     /// The areas before the call, guards included: the old records, and noise that depends only on the input.
     pub fn before(&self) -> [Vec<u8>; 3] {
-        let mut rng = Rng::new((self.old.line.n ^ self.both().len()) as u64);
-        let lists: [&[u8]; 3] = [&self.old.fibres, &self.old.assignments, &[]];
-        let mut lists = lists.into_iter();
-        self.lent().map(|lent| {
-            let mut area = vec![0; lent.end + GUARD];
-            rng.fill(&mut area);
-            for (byte, old) in area[lent]
-                .iter_mut()
-                .zip(lists.next().into_iter().flatten())
-            {
-                *byte = *old;
-            }
-            area
-        })
+        let noise = Rng::new((self.old.line.n ^ self.both().len()) as u64);
+        let lists = [&self.old.fibres[..], &self.old.assignments, &[]];
+        filled(self.lent(), lists, noise)
     }
 
     /// What is answered and left, where the two files are handed in.
@@ -358,11 +346,9 @@ pub fn damaged(rng: &mut Rng) -> Addition {
     call
 }
 
-/// Writes a layer into each old fibre record.
-pub fn with_layers(call: &Addition, mut layer: impl FnMut() -> usize) -> Addition {
-    let mut call = call.clone();
-    for record in call.old.fibres.chunks_exact_mut(8) {
+/// Writes a layer into each fibre record of a list.
+pub fn write_layers(fibres: &mut [u8], mut layer: impl FnMut() -> usize) {
+    for record in fibres.chunks_exact_mut(8) {
         set_half(record, 6, layer());
     }
-    call
 }

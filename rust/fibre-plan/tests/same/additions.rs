@@ -1,12 +1,12 @@
 //! The additions of the library and those of the reference agree on every answer and every byte.
 use crate::added::{
-    accepted, column, damaged, far_counts, full_size, other_line, with_layers, Addition,
+    accepted, column, damaged, far_counts, full_size, other_line, write_layers, Addition,
     MOST_OLD_FIBRES,
 };
 use crate::areas::{Answer, Input, Seen};
-use crate::draws::{self, rng_of, Digits, Size, DENSE, LARGE, MIDDLE, SMALL};
+use crate::draws::{self, rng_of, span, Digits, Size, DENSE, LARGE, MIDDLE, SMALL};
 use crate::spread;
-use crate::submitted::{contractors, ours, with_fibres, Submitted};
+use crate::submitted::{contractors, ours, sorted, with_fibres, Submitted};
 use fibre_plan::{Assignment, Fibre};
 use inputs::{encode, Circuit, Numbers, Rng};
 use reference::{Finding, Line, Slip, ADD_SLIPS};
@@ -366,8 +366,11 @@ fn old_layers_do_not_matter() {
     spread(10_000, |i| {
         let rng = &mut rng_of(60, i);
         let call = accepted(SMALL, rng);
-        let [one, two] = [0, 1].map(|_| with_layers(&call, || rng.bits() as u16 as usize));
-        let seen = [&one, &two].map(added);
+        let seen = [0, 1].map(|_| {
+            let mut call = call.clone();
+            write_layers(&mut call.old.fibres, || rng.bits() as u16 as usize);
+            added(&call)
+        });
         assert_eq!(seen[0].assignments, seen[1].assignments);
         let old = 8 * call.named[0];
         assert_eq!(seen[0].fibres[old..], seen[1].fibres[old..]);
@@ -388,13 +391,6 @@ fn shuffled(call: &Addition, rng: &mut Rng) -> Addition {
     other
 }
 
-/// The records of a list, by rising bytes.
-fn sorted(list: &[u8]) -> Vec<&[u8]> {
-    let mut records: Vec<&[u8]> = list.chunks_exact(8).collect();
-    records.sort_unstable();
-    records
-}
-
 #[test]
 fn file_order_does_not_matter() {
     spread(10_000, |i| {
@@ -405,11 +401,6 @@ fn file_order_does_not_matter() {
         // A circuit has one record in each list, and numbers differ: so each has the same one.
         assert_eq!(sorted(&one.assignments), sorted(&two.assignments));
     });
-}
-
-/// The first and the last of two links.
-fn span(digits: &mut Digits) -> (u16, u16) {
-    [(1, 1), (1, 2), (2, 2)][usize::from(digits.next(3))]
 }
 
 /// Circuits with these numbers.

@@ -4,7 +4,7 @@ use reference::{Line, Slip};
 use std::ops::Range;
 
 /// The least bytes that stand before and behind each lent area, which nobody may touch.
-pub const GUARD: usize = 16;
+const GUARD: usize = 16;
 
 /// One call: its line, its circuit file, and the lengths of the three areas.
 #[derive(Clone, Debug)]
@@ -14,14 +14,42 @@ pub struct Input {
     pub lengths: [usize; 3],
 }
 
-/// The three numbers of a plan, or number, place and end of a refusal.
-pub type Answer = Result<[usize; 3], (u32, usize, u32)>;
+/// The numbers of a plan, three or for a mending four, or number, place and end of a refusal.
+pub type Answer<const N: usize = 3> = Result<[usize; N], (u32, usize, u32)>;
 
-/// What a call answered and what it left in the areas, guards included.
+/// What a call answered and what it left in the areas, as many as it has numbers, guards included.
 #[derive(Debug, PartialEq, Eq)]
-pub struct Seen {
-    pub answer: Answer,
-    pub areas: [Vec<u8>; 3],
+pub struct Seen<const N: usize = 3> {
+    pub answer: Answer<N>,
+    pub areas: [Vec<u8>; N],
+}
+
+/// Where each lent area stands between its guards: for other links and circuits it may start at another address.
+pub fn between_guards<const N: usize>(
+    lengths: [usize; N],
+    links: usize,
+    circuits: usize,
+) -> [Range<usize>; N] {
+    let from = GUARD + (links ^ circuits) % 8;
+    lengths.map(|length| from..from + length)
+}
+
+/// The lent areas, guards included: each begins with a list, as far as it has room, and all else is noise.
+pub fn filled<const N: usize>(
+    lent: [Range<usize>; N],
+    lists: [&[u8]; N],
+    mut noise: Rng,
+) -> [Vec<u8>; N] {
+    let mut lists = lists.into_iter();
+    lent.map(|lent| {
+        let mut area = vec![0; lent.end + GUARD];
+        noise.fill(&mut area);
+        let list = lists.next().into_iter().flatten();
+        for (byte, old) in area[lent].iter_mut().zip(list) {
+            *byte = *old;
+        }
+        area
+    })
 }
 
 impl Input {
@@ -47,20 +75,15 @@ impl Input {
         input
     }
 
-    /// Where each lent area stands between its guards: it may start at any address.
+    /// Where each lent area stands between its guards.
     pub fn lent(&self) -> [Range<usize>; 3] {
-        let from = GUARD + (self.line.n ^ (self.circuits.len() / 8)) % 8;
-        self.lengths.map(|length| from..from + length)
+        between_guards(self.lengths, self.line.n, self.circuits.len() / 8)
     }
 
     /// The areas before the call, guards included: noise that depends only on the input.
     pub fn noise(&self) -> [Vec<u8>; 3] {
-        let mut rng = Rng::new((self.line.n ^ self.circuits.len()) as u64);
-        self.lent().map(|lent| {
-            let mut area = vec![0; lent.end + GUARD];
-            rng.fill(&mut area);
-            area
-        })
+        let noise = Rng::new((self.line.n ^ self.circuits.len()) as u64);
+        filled(self.lent(), [&[]; 3], noise)
     }
 
     /// What a planner answers and leaves.

@@ -183,6 +183,11 @@ impl Digits {
     }
 }
 
+/// The first and the last of two links.
+pub fn span(digits: &mut Digits) -> (u16, u16) {
+    [(1, 1), (1, 2), (2, 2)][usize::from(digits.next(3))]
+}
+
 /// Circuit numbers of the small inputs: none, and an order that is another byte by byte.
 const NUMBERS: [u32; 4] = [0, 1, 2, 1 << 24];
 

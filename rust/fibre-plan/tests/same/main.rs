@@ -4,7 +4,9 @@ mod additions;
 mod areas;
 mod checks;
 mod draws;
+mod mendings;
 mod pages;
+mod registers;
 mod submitted;
 mod turns;
 
@@ -190,10 +192,7 @@ fn bytes_behind_the_fibres_stay_where_old_pairs_outnumber_them() {
 /// The assignment records that a call left, by rising bytes.
 fn sorted_assignments<'a>(input: &Input, seen: &'a Seen) -> Vec<&'a [u8]> {
     let start = input.lent()[1].start;
-    let list = &seen.areas[1][start..start + input.circuits.len()];
-    let mut records: Vec<&[u8]> = list.chunks_exact(8).collect();
-    records.sort_unstable();
-    records
+    submitted::sorted(&seen.areas[1][start..start + input.circuits.len()])
 }
 
 #[test]

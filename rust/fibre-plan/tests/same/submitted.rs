@@ -114,10 +114,17 @@ struct Draft {
     places: Vec<Option<(u16, u16)>>,
 }
 
-/// The typed records of a list.
-pub fn typed<T>(list: &[u8], read: impl Fn(&[u8; 8]) -> T) -> Vec<T> {
+/// The typed records of a list, or lines of a report.
+pub fn typed<T, const BYTES: usize>(list: &[u8], read: impl Fn(&[u8; BYTES]) -> T) -> Vec<T> {
     let (records, _) = list.as_chunks();
     records.iter().map(read).collect()
+}
+
+/// The records of a list, by rising bytes.
+pub fn sorted(list: &[u8]) -> Vec<&[u8]> {
+    let mut records: Vec<&[u8]> = list.chunks_exact(8).collect();
+    records.sort_unstable();
+    records
 }
 
 impl Draft {
@@ -292,7 +299,7 @@ fn two_records(list: &[u8], rng: &mut Rng) -> Option<(usize, usize)> {
 }
 
 /// Exchanges some bytes of two records.
-fn exchange(list: &mut [u8], one: usize, two: usize, len: usize) {
+pub fn exchange(list: &mut [u8], one: usize, two: usize, len: usize) {
     for i in 0..len {
         list.swap(one + i, two + i);
     }

@@ -1,0 +1,14 @@
+pub mod Leaves
+pub mod Reading
+pub mod Rules
+pub mod Answers
+pub mod Yes
+pub mod Again
+pub mod Orders
+pub mod Bench
+pub mod Lining
+pub mod Sifting
+pub mod Refilling
+pub mod Remaking
+pub mod Judging
+pub mod Pinned

@@ -1,0 +1,4 @@
+pub mod Mending
+pub mod Mended
+pub mod MendDemands
+pub mod Bench

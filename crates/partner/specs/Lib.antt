@@ -1,0 +1,4 @@
+pub mod Asking
+pub mod Sharing
+pub mod AskDemands
+pub mod Bench

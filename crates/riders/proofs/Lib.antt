@@ -1,0 +1,11 @@
+pub mod LoadLaws
+pub mod StartLaws
+pub mod SameLaws
+pub mod PickLaws
+pub mod StretchLaws
+pub mod FillLaws
+pub mod ColumnLaws
+pub mod Accepting
+pub mod RiderLaws
+pub mod Seeing
+pub mod Cases

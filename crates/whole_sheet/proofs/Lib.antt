@@ -1,0 +1,11 @@
+pub mod Everys
+pub mod Fitting
+pub mod Stepping
+pub mod RowStarts
+pub mod Drawing
+pub mod Judged
+pub mod TakenLinks
+pub mod CellLaws
+pub mod CellMeanings
+pub mod WholeDemands
+pub mod WholeBench
