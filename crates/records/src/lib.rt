@@ -1,4 +1,6 @@
 // The three 8-byte records in lent bytes.
+#![tactic(auto)]
+
 ghost use Rattle.std.specs.Prelude.{◌≡◌, [], ◌∷◌, ◌+◌, ◌*◌, ◌≤◌, length};
 ghost use Rattle.records.specs.Bytes.{encode};
 ghost use Rattle.records.specs.LineFiles.{line_in, line_on};
