@@ -1,4 +1,6 @@
 // The grids: how many wavelengths each has, and which channel and frequency a wavelength is.
+#![tactic(auto)]
+
 ghost use Rattle.std.specs.Prelude.{◌≡◌, pos};
 ghost use Rattle.grid.specs.Frequencies.{is_grid, limit_of, anchor_of, spacing_of, channel_of, frequency_of};
 
