@@ -10,7 +10,7 @@ mod admit;
 mod grow;
 
 // How many old records the fibre list and the assignment list begin with, as the caller names them.
-#[derive(Drop)]
+#[derive(Clone, Copy)]
 pub struct Named {
     pub fibres: usize,
     pub assignments: usize,

@@ -4,7 +4,7 @@ ghost use Rattle.std.specs.Prelude.{◌≡◌, ◌*◌, ◌<◌, ◌≤◌, leng
 use records::Circuit;
 
 // Two of the refusal table's faults, by number; 0 is none.
-#[derive(Drop)]
+#[derive(Clone, Copy)]
 pub struct Faults {
     pub one: usize,
     pub other: usize,

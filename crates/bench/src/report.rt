@@ -3,7 +3,7 @@ use crate::inputs::Faults;
 use crate::runs::Came;
 
 // An answer: the refusal's number, or 0, and what comes with it: place and end, or fibres, total and floor.
-#[derive(Drop)]
+#[derive(Clone, Copy)]
 pub struct Told {
     pub number: usize,
     pub first: usize,
@@ -12,7 +12,7 @@ pub struct Told {
 }
 
 // How many cases there were, and how many came out otherwise than expected.
-#[derive(Drop)]
+#[derive(Clone, Copy)]
 pub struct Tally {
     pub cases: u64,
     pub differ: u64,

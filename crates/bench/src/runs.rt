@@ -8,7 +8,7 @@ use planner::Answer;
 use records::{Circuit, Line};
 
 // How many bytes of each area are lent.
-#[derive(Drop)]
+#[derive(Clone, Copy)]
 pub struct Room {
     pub fibres: usize,
     pub assigns: usize,
@@ -16,7 +16,7 @@ pub struct Room {
 }
 
 // A file of circuits: how many, the last link of the first, whether the others stand along a chain, how many bytes are given, and the faults.
-#[derive(Drop)]
+#[derive(Clone, Copy)]
 pub struct File {
     pub many: usize,
     pub last: u16,
@@ -26,7 +26,7 @@ pub struct File {
 }
 
 // The answer, and how many bytes of each area are not as they should be.
-#[derive(Drop)]
+#[derive(Clone, Copy)]
 pub struct Came {
     pub told: Told,
     pub fibres: usize,

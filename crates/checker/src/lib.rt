@@ -13,7 +13,7 @@ use refusals::Verdict;
 use rules::Fault;
 
 // Yes, with length and floor; no, with the first broken rule and its place; or refused, with number, place and which end is wrong.
-#[derive(Drop)]
+#[derive(Clone, Copy)]
 pub enum Finding {
     Yes { length: usize, floor: usize },
     No { rule: u32, place: u32 },

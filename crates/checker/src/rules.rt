@@ -8,7 +8,7 @@ ghost use Rattle.checker.specs.Checked.{fibres_in, assignments_in, fault_of};
 ghost use Rattle.checker.specs.inner.Runs.{own_rules_on, own_rules_in};
 
 // What a run through the rules comes to: nothing, or the first broken rule and its place.
-#[derive(Drop)]
+#[derive(Clone, Copy)]
 pub enum Fault {
     Nothing,
     Broken { rule: u32, place: u32 },

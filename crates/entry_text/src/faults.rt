@@ -7,7 +7,7 @@ use crate::words::Numeral;
 use crate::{numbering, words};
 
 // No number where one is expected, a sign before it, a byte order mark, a word that is none, one too large, or a word too many.
-#[derive(Drop)]
+#[derive(Clone, Copy)]
 pub enum Fault {
     NumberMissing,
     Sign,

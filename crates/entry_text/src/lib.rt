@@ -14,7 +14,7 @@ pub mod numbering;
 mod words;
 
 // What the first line that counts says: the grid is 1 where it does not name it.
-#[derive(Drop)]
+#[derive(Clone, Copy)]
 pub struct Header {
     pub n: u16,
     pub w: u16,
@@ -23,14 +23,14 @@ pub struct Header {
 }
 
 // The header and how many circuits, or the first line that is wrong, counted from 1, and what was expected there.
-#[derive(Drop)]
+#[derive(Clone, Copy)]
 pub enum Entry {
     Entered { header: Header, circuits: usize },
     Wrong { line: usize, expected: u32 },
 }
 
 // How many bytes line.rec, circuits.rec and the message have, or how many the message has where there are no files.
-#[derive(Drop)]
+#[derive(Clone, Copy)]
 pub enum Made {
     Both {
         line: usize,
@@ -41,7 +41,7 @@ pub enum Made {
 }
 
 // How many circuits there are, or where reading stopped.
-#[derive(Drop)]
+#[derive(Clone, Copy)]
 enum Ending {
     Whole(usize),
     Stopped { line: usize, expected: u32 },

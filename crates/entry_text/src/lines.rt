@@ -8,21 +8,21 @@ use crate::words::Numeral;
 use crate::{Header, words};
 
 // What a line says that should be the header.
-#[derive(Drop)]
+#[derive(Clone, Copy)]
 pub enum Heading {
     Given(Header),
     Lacking,
 }
 
 // What a line says that should be a circuit.
-#[derive(Drop)]
+#[derive(Clone, Copy)]
 pub enum CircuitLine {
     Says(records::Circuit),
     Unclear,
 }
 
 // The header with where the next line starts and its number, or the line that should have been the header.
-#[derive(Drop)]
+#[derive(Clone, Copy)]
 pub enum Opening {
     Headed {
         header: Header,

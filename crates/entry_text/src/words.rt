@@ -4,7 +4,7 @@ ghost use Rattle.entry_text.specs.Entries.{is_space, line_end, word_from, word_t
 ghost use Rattle.entry_text.specs.inner.Told.{numeral_of};
 
 // A number, or that there is none.
-#[derive(Drop)]
+#[derive(Clone, Copy)]
 pub enum Numeral {
     Value(u64),
     Nothing,

@@ -8,7 +8,7 @@ use records::Line;
 
 // Yes where `refusal` and `rule` are 0, with length and floor; no where only `refusal` is, with the first broken rule and its place; else the refusal's number and place, which end is wrong, and zeros.
 #[repr(C)]
-#[derive(Drop)]
+#[derive(Clone, Copy)]
 pub struct CheckAnswer {
     pub refusal: u32,
     pub place: u32,

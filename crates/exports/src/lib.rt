@@ -13,7 +13,7 @@ use records::Line;
 
 // Planned where `refusal` is 0, with the three numbers; else the refusal's number and place, which end is wrong, and zeros.
 #[repr(C)]
-#[derive(Drop)]
+#[derive(Clone, Copy)]
 pub struct PlanAnswer {
     pub refusal: u32,
     pub place: u32,

@@ -10,7 +10,7 @@ use records::Line;
 
 // Mended where `refusal` is 0, with the three numbers and how many lines the report has; else the refusal's number and place, which end is wrong, and zeros.
 #[repr(C)]
-#[derive(Drop)]
+#[derive(Clone, Copy)]
 pub struct MendAnswer {
     pub refusal: u32,
     pub place: u32,

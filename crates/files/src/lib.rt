@@ -7,14 +7,14 @@ use libc::{STDIN_FILENO, STDOUT_FILENO};
 pub mod pair;
 
 // How many bytes were moved, or that the file could not be opened, read or written.
-#[derive(Drop)]
+#[derive(Clone, Copy)]
 pub enum Moved {
     Bytes(usize),
     Failed,
 }
 
 // What one call came to. One that was interrupted before it moved a byte took none.
-#[derive(Drop)]
+#[derive(Clone, Copy)]
 enum Turn {
     Took(usize),
     Nothing,

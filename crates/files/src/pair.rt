@@ -6,7 +6,7 @@ use crate::Moved;
 
 // What became of the files: they are new, or they are as they were since the drafts could not be written, or a file could not take its name, and then the last may be
 // missing.
-#[derive(Drop)]
+#[derive(Clone, Copy)]
 pub enum Replacement {
     Done,
     NotWritten,
@@ -14,7 +14,7 @@ pub enum Replacement {
 }
 
 // Whether an old last file was moved away, or there was none, or it cannot be moved.
-#[derive(Drop)]
+#[derive(Clone, Copy)]
 enum Away {
     Moved,
     Missing,

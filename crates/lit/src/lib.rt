@@ -12,14 +12,14 @@ ghost use Rattle.lit.specs.inner.Sweeps.{HasRow, SweptOn, SweptSome, Takable, ta
 use register::Job;
 
 // How many fibres, and their length.
-#[derive(Drop)]
+#[derive(Clone, Copy)]
 pub struct Trimmed {
     pub fibres: usize,
     pub total: usize,
 }
 
 // New fibres so far and their length; `past` is the link after the run that is open, or 0 if none is.
-#[derive(Drop)]
+#[derive(Clone, Copy)]
 struct Open {
     many: usize,
     total: usize,

@@ -13,7 +13,7 @@ use refusals::Verdict;
 use register::Counts;
 
 // Mended, with the three numbers and how many lines the report has, or refused, with number, place and which end is wrong.
-#[derive(Drop)]
+#[derive(Clone, Copy)]
 pub enum Answer {
     Mended { counts: Counts, lines: usize },
     Refused { number: u32, place: u32, end: u32 },

@@ -20,7 +20,7 @@ ghost use Rattle.placing.specs.Found.{Spotted};
 ghost use Rattle.placing.specs.Turns.{AllWritten, InTurn, PlacedAll};
 
 // How many there are: circuits of a file, assignment records before theirs, fibres, and wavelengths.
-#[derive(Drop)]
+#[derive(Clone, Copy)]
 pub struct Sizes {
     pub circuits: usize,
     pub before: usize,
@@ -29,7 +29,7 @@ pub struct Sizes {
 }
 
 // A place: fibre and wavelength, both 0 if there is none.
-#[derive(Drop)]
+#[derive(Clone, Copy)]
 pub struct Spot {
     pub fibre: u16,
     pub wavelength: u16,

@@ -11,7 +11,7 @@ ghost use Rattle.placing.specs.inner.Spots.{Bounded, Columns, Cornered, Corners,
 use crate::{Spot, riders};
 
 // A corner of a fibre: it shuts out who begins at link `until` or before and ends at link `from` or later.
-#[derive(Drop)]
+#[derive(Clone, Copy)]
 struct Corner {
     until: u16,
     from: u16,

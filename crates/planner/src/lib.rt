@@ -10,7 +10,7 @@ use register::{Counts, Job};
 pub mod admit;
 
 // Planned, with the three numbers, or refused, with number, place and which end is wrong.
-#[derive(Drop)]
+#[derive(Clone, Copy)]
 pub enum Answer {
     Planned(Counts),
     Refused { number: u32, place: u32, end: u32 },

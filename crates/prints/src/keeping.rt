@@ -10,7 +10,7 @@ use planner::Answer;
 use records::{Line, LineFile};
 
 // How many bytes fibres.rec, assign.rec and the text have, or how many the text has where no list is kept.
-#[derive(Drop)]
+#[derive(Clone, Copy)]
 pub enum Kept {
     Both {
         fibres: usize,

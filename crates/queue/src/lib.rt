@@ -11,7 +11,7 @@ ghost use Rattle.queue.specs.inner.ClosedUp.{ClosedUp};
 use scans::Bounds;
 
 // The part of the list where circuits wait, from place `from` to before place `to`; at most `many` do.
-#[derive(Drop)]
+#[derive(Clone, Copy)]
 pub struct Queue {
     pub from: usize,
     pub to: usize,

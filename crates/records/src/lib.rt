@@ -10,7 +10,7 @@ pub mod cells;
 pub mod numbers;
 
 // A line: how many links, how many wavelengths a fibre carries, and the number of their grid.
-#[derive(Drop)]
+#[derive(Clone, Copy)]
 pub struct Line {
     pub links: usize,
     pub wavelengths: usize,
@@ -18,14 +18,14 @@ pub struct Line {
 }
 
 // What the bytes of a line's file say: a line, or none.
-#[derive(Drop)]
+#[derive(Clone, Copy)]
 pub enum LineFile {
     Says(Line),
     Unclear,
 }
 
 // A circuit, as its record holds it.
-#[derive(Drop)]
+#[derive(Clone, Copy)]
 pub struct Circuit {
     pub number: u32,
     pub first: u16,
@@ -33,7 +33,7 @@ pub struct Circuit {
 }
 
 // A fibre with its number.
-#[derive(Drop)]
+#[derive(Clone, Copy)]
 pub struct FibreRecord {
     pub number: u16,
     pub first: u16,
@@ -42,7 +42,7 @@ pub struct FibreRecord {
 }
 
 // What a circuit is given.
-#[derive(Drop)]
+#[derive(Clone, Copy)]
 pub struct AssignmentRecord {
     pub circuit: u32,
     pub fibre: u16,

@@ -1,4 +1,6 @@
 // The tests, one function each: what is refused, with which number and place, and which end is wrong; and the chains of them that operations share.
+#![tactic(auto)]
+
 ghost use Rattle.std.specs.Prelude.{◌≡◌, ◌+◌, ◌*◌, ◌/◌, ◌≤◌, ◌<◌, not, ◌&&◌, length, leb, ltb};
 ghost use Rattle.grid.specs.Frequencies.{limit_of};
 ghost use Rattle.refusals.specs.Table.{whenever, wrong_end, tested, row1, row2, row3, row4, row5, row6, row7, row8, row9, row10, row12};
@@ -7,7 +9,7 @@ ghost use Rattle.refusals.specs.inner.Remainders.{remainder_of};
 pub mod admit;
 
 // What a test answers, or a chain of tests: passed, with a number that it found, or refused, with number, place and which end is wrong.
-#[derive(Drop)]
+#[derive(Clone, Copy)]
 pub enum Verdict {
     Checked(usize),
     Refused { number: u32, place: u32, end: u32 },

@@ -1,7 +1,8 @@
 // Plans in bytes: the fibre list and the assignment list.
+#![tactic(auto)]
 
 // How many fibres, their length, and the floor.
-#[derive(Drop)]
+#[derive(Clone, Copy)]
 pub struct Counts {
     pub fibres: usize,
     pub total: usize,
@@ -9,7 +10,7 @@ pub struct Counts {
 }
 
 // How many links, wavelengths and circuits, and the number that fibres are numbered after.
-#[derive(Drop)]
+#[derive(Clone, Copy)]
 pub struct Job {
     pub links: usize,
     pub wavelengths: usize,

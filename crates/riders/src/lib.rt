@@ -12,14 +12,14 @@ mod columns;
 mod stretches;
 
 // Indexed, with how many cells are used, or refused, with number, place and which end is wrong.
-#[derive(Drop)]
+#[derive(Clone, Copy)]
 pub enum Answer {
     Indexed { cells: usize },
     Refused { number: u32, place: u32, end: u32 },
 }
 
 // A part of the index: the cell where it starts, and how many cells it has.
-#[derive(Drop)]
+#[derive(Clone, Copy)]
 pub struct Stretch {
     pub start: usize,
     pub length: usize,

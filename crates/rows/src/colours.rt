@@ -12,7 +12,7 @@ use scans::Bounds;
 pub const BLUE: u16 = 65535;
 
 // A run of open links, from `from` to before `past`, and its reach over the blue links beside it, from `low` to before `high`.
-#[derive(Drop)]
+#[derive(Clone, Copy)]
 pub struct Run {
     pub from: usize,
     pub past: usize,

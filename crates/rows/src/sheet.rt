@@ -15,7 +15,7 @@ use crate::{choice, colours};
 use queue::Queue;
 
 // How many links and circuits there are; they travel together.
-#[derive(Drop)]
+#[derive(Clone, Copy)]
 pub struct Size {
     pub links: usize,
     pub circuits: usize,

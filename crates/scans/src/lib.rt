@@ -1,4 +1,6 @@
 // Searches in columns of 2-byte cells. A chunk is looked at as a whole, with no exit inside, so that many cells are compared at once.
+#![tactic(auto)]
+
 ghost use Rattle.std.specs.Prelude.{◌≡◌, ◌+◌, ◌-◌, ◌*◌, ◌≤◌, length, if◌then◌else◌};
 ghost use Rattle.basics.specs.Tools.{any, seek};
 ghost use Rattle.records.specs.Bytes.{cells_of};
@@ -6,7 +8,7 @@ ghost use Rattle.scans.specs.Scans.{within, cell_within, both_within, Searched};
 ghost use Rattle.scans.specs.inner.Chunks.{CameTo};
 
 // The numbers from `low` to `high`.
-#[derive(Drop)]
+#[derive(Clone, Copy)]
 pub struct Bounds {
     pub low: u16,
     pub high: u16,

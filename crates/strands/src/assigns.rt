@@ -11,7 +11,7 @@ ghost use Rattle.strands.specs.inner.Pairs.{HasPairs};
 use register::Job;
 
 // A fibre and a wavelength.
-#[derive(Drop)]
+#[derive(Clone, Copy)]
 struct Place {
     fibre: usize,
     wavelength: usize,

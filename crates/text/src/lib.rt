@@ -1,4 +1,6 @@
 // Text at the start of a lent buffer: a byte, words, a number.
+#![tactic(auto)]
+
 ghost use Rattle.std.specs.Prelude.{[], ◌∷◌, ◌++◌, ◌+◌, ◌≤◌, length};
 ghost use Rattle.text.specs.Decimals.{decimal};
 ghost use Rattle.text.specs.Wrote.{Wrote};

@@ -10,14 +10,14 @@ use crate::colours;
 use crate::colours::Run;
 
 // How many links and circuits there are; they travel together.
-#[derive(Drop)]
+#[derive(Clone, Copy)]
 pub struct Size {
     pub links: usize,
     pub circuits: usize,
 }
 
 // The place of a circuit in the file, or nobody.
-#[derive(Drop)]
+#[derive(Clone, Copy)]
 pub enum Choice {
     Lowest(usize),
     Nobody,

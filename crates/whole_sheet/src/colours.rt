@@ -18,7 +18,7 @@ pub const TAKEN: u8 = 2;
 pub const OPEN: u8 = 3;
 
 // A run of open links, from `from` to before `past`.
-#[derive(Drop)]
+#[derive(Clone, Copy)]
 pub struct Run {
     pub from: usize,
     pub past: usize,
