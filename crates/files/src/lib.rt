@@ -1,8 +1,12 @@
 // Whole files and the standard streams through lent buffers, with short and interrupted calls tried again.
+#![tactic(auto)]
+
 ghost use Rattle.std.specs.Prelude.{length};
 ghost use Rattle.files.specs.Moves.{Taken, Read, WroteAll, WroteDigits};
 
-use libc::{STDIN_FILENO, STDOUT_FILENO};
+use std::fs;
+use std::io::{Error, ErrorKind, Input, Print};
+use std::rt::Files;
 
 pub mod pair;
 
@@ -24,32 +28,29 @@ enum Turn {
 // A proved loop has to end, and nothing says that a file does: calls are counted down from a number that no run uses up.
 const TURNS: u64 = u64::MAX;
 
-// What a call came to that was handed `bytes` and has just answered `got`.
-fn turn_of(got: isize, bytes: &[u8]) -> Turn
-    ensures { Taken result (length bytes.now) }
+// What a call came to that failed: an interrupted one is tried again.
+fn turn_of(e: Error) -> Turn
+    ensures { Taken result 0 }
 {
-    if got < 0 {
-        if os::errno() == libc::EINTR {
-            return Turn::Took(0);
-        }
-        return Turn::Broken;
+    if e.kind() == ErrorKind::Interrupted {
+        return Turn::Took(0);
     }
-    if got == 0 {
-        return Turn::Nothing;
-    }
-    Turn::Took(io::count(got, bytes))
+    Turn::Broken
 }
 
 // One call of read.
-fn read_some(fd: i32, part: &mut [u8]) -> Turn
+fn read_some<R: std::io::Read>(from: &mut R, part: &mut [u8]) -> Turn
     ensures { Taken result (length part.new) }
 {
-    let got = libc::read(fd, part);
-    turn_of(got, part)
+    match from.read(part) {
+        Ok(0) => Turn::Nothing,
+        Ok(k) => Turn::Took(k),
+        Err(e) => turn_of(e),
+    }
 }
 
 // Reads until the buffer is full or the input ends.
-fn read_all(fd: i32, buf: &mut [u8]) -> Moved
+fn read_all<R: std::io::Read>(from: &mut R, buf: &mut [u8]) -> Moved
     ensures { Read result buf.new }
 {
     let mut done = 0;
@@ -59,7 +60,7 @@ fn read_all(fd: i32, buf: &mut [u8]) -> Moved
             return Moved::Failed;
         }
         turns -= 1;
-        let turn = read_some(fd, &mut buf[done..]);
+        let turn = read_some(from, &mut buf[done..]);
         match turn {
             Turn::Took(k) => done += k,
             Turn::Nothing => return Moved::Bytes(done),
@@ -70,15 +71,18 @@ fn read_all(fd: i32, buf: &mut [u8]) -> Moved
 }
 
 // One call of write.
-fn write_some(fd: i32, part: &[u8]) -> Turn
+fn write_some<W: std::io::Write>(to: &mut W, part: &[u8]) -> Turn
     ensures { Taken result (length part.now) }
 {
-    let got = libc::write(fd, part);
-    turn_of(got, part)
+    match to.write(part) {
+        Ok(0) => Turn::Nothing,
+        Ok(k) => Turn::Took(k),
+        Err(e) => turn_of(e),
+    }
 }
 
 // Writes all of the buffer.
-fn write_all(fd: i32, buf: &[u8]) -> Moved
+fn write_all<W: std::io::Write>(to: &mut W, buf: &[u8]) -> Moved
     ensures { WroteAll result (length buf.now) }
 {
     let mut done = 0;
@@ -88,7 +92,7 @@ fn write_all(fd: i32, buf: &[u8]) -> Moved
             return Moved::Failed;
         }
         turns -= 1;
-        let turn = write_some(fd, &buf[done..]);
+        let turn = write_some(to, &buf[done..]);
         match turn {
             Turn::Took(k) => done += k,
             Turn::Nothing => return Moved::Failed,
@@ -98,38 +102,45 @@ fn write_all(fd: i32, buf: &[u8]) -> Moved
     Moved::Bytes(done)
 }
 
+// Opens a file for reading. A name that is no text names none.
+fn open_read<R: Files>(rt: &R, name: &[u8]) -> Option<R::File> {
+    match str::from_utf8(name) {
+        Ok(path) => fs::open(rt, path).ok(),
+        Err(_) => None,
+    }
+}
+
 // Reads the start of a file, as much as the buffer holds.
-pub fn read_file(name: &[u8], buf: &mut [u8]) -> Moved
+pub fn read_file<R: Files>(rt: &R, name: &[u8], buf: &mut [u8]) -> Moved
     ensures { Read result buf.new }
 {
-    let fd = os::open_read(name);
-    if fd < 0 {
-        return Moved::Failed;
+    match open_read(rt, name) {
+        Some(mut file) => read_all(&mut file, buf),
+        None => Moved::Failed,
     }
-    let got = read_all(fd, buf);
-    libc::close(fd);
-    got
 }
 
 // Reads the start of standard input, as much as the buffer holds.
-pub fn read_input(buf: &mut [u8]) -> Moved
+pub fn read_input<R: Input>(rt: &R, buf: &mut [u8]) -> Moved
     ensures { Read result buf.new }
 {
-    read_all(STDIN_FILENO, buf)
+    let mut input = rt.reader();
+    read_all(&mut input, buf)
 }
 
 // Writes all of the buffer to standard output.
-pub fn write_output(buf: &[u8]) -> Moved
+pub fn write_output<P: Print>(rt: &P, buf: &[u8]) -> Moved
     ensures { WroteAll result (length buf.now) }
 {
-    write_all(STDOUT_FILENO, buf)
+    let mut output = std::io::writer(rt);
+    write_all(&mut output, buf)
 }
 
 // Writes a number in decimal to standard output.
-pub fn write_number(x: u64) -> Moved
+pub fn write_number<P: Print>(rt: &P, x: u64) -> Moved
     ensures { WroteDigits result x }
 {
     let mut text = [0u8; 20];
     let k = io::decimal(x, &mut text);
-    write_output(&text[..k])
+    write_output(rt, &text[..k])
 }
