@@ -18,7 +18,9 @@ pub fn write_words(words: &[u8], out: &mut [u8]) -> usize
     requires { length words.now ≤ length out.old }
     ensures { Wrote words.now result out.old out.new }
 {
-    bytes::copy(words, out)
+    let n = words.len();
+    out[..n].copy_from_slice(words);
+    n
 }
 
 // x in decimal: all digits but the last, then the last. What is told: how many.
