@@ -1,4 +1,6 @@
 // Reads a text of circuits.
+#![tactic(auto)]
+
 ghost use Rattle.std.specs.Prelude.{◌≡◌, ◌+◌, ◌/◌, ◌≤◌, length, take};
 ghost use Rattle.entry_text.specs.Entered.{Enters};
 ghost use Rattle.entry_text.specs.Pair.{MadeOf};

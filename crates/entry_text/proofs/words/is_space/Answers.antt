@@ -1,0 +1,16 @@
+-- `entry_text::words::is_space` meets its contract. Assumes nothing.
+use borrow.Author.Tests.{eq-eqb, ne_eqb}
+use Rattle.entry_text.specs.Entries.{is_space}
+use Rattle.entry_text.proofs.words.is_space.Goals as goal
+
+pub returns-then-b-eq32 : goal.returns-then-b-eq32
+unfolding is_space
+returns-then-b-eq32 c = rw (eq-eqb _ _ c.if-b-eq32.true)
+
+pub returns-then-b-eq9 : goal.returns-then-b-eq9
+unfolding is_space
+returns-then-b-eq9 c = rw (ne_eqb _ _ c.if-b-eq32.false, eq-eqb _ _ c.if-b-eq9.true)
+
+pub returns : goal.returns
+unfolding is_space
+returns c = rw (ne_eqb _ _ c.if-b-eq32.false, ne_eqb _ _ c.if-b-eq9.false)
