@@ -1,5 +1,7 @@
 // Rule 8 of R-7: the first assignment that clashes with an earlier one, that is, overlaps it on the same fibre with the same wavelength.
 // The circuits of each fibre are walked by rising first link, so that one pass tells whether any two of the first q circuits clash; halving finds the least q.
+#![tactic(auto)]
+
 ghost use Rattle.std.specs.Prelude.{◌≡◌, ℕ, ◌+◌, ◌≤◌, ◌<◌, length};
 ghost use Rattle.basics.specs.Tools.{any, seek};
 ghost use Rattle.chains.specs.Riders.{OnFibres};

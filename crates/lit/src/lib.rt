@@ -1,4 +1,6 @@
 // Request R-1: no dark strands. Each maximal run of links that the circuits of an old fibre use becomes a fibre of the same layer in its place.
+#![tactic(auto)]
+
 ghost use Rattle.std.specs.Prelude.{◌≡◌, ◌+◌, ◌/◌, ◌≤◌, ◌<◌, length, get_or};
 ghost use Rattle.records.specs.Area.{rows_in};
 ghost use Rattle.records.specs.Bytes.{cells_of};
@@ -121,8 +123,8 @@ fn trim_all(
     assigns: &mut [u8],
 ) -> Trimmed
     requires many_in_bounds { (many ≤ length heads.now) × (many ≤ 4096) }
-    requires swept_some { SweptSome job 0 circuits.now work.now next.now heads.now (record { fibres = 0; total = 0 }) fibres.now assigns.old }
-    ensures { SweptOn job circuits.now work.now next.now heads.now 0 (record { fibres = 0; total = 0 }) fibres.entry.now assigns.old many result fibres.exit.now assigns.new }
+    requires swept_some { SweptSome job 0 circuits.now work.now next.now heads.now (record { fibres = 0; total = 0 }) fibres.old assigns.old }
+    ensures { SweptOn job circuits.now work.now next.now heads.now 0 (record { fibres = 0; total = 0 }) fibres.old assigns.old many result fibres.new assigns.new }
 {
     let mut s = Trimmed {
         fibres: 0,
