@@ -25,7 +25,7 @@ abbrev pub Halvable : ℕ → ℕ → List Circuit → List ℕ → Type 0
 Halvable n m cs C = Lies n cs × (FewRows n m C × OneEnd n m cs C)
 
 -- the row of each circuit becomes twice the row, and 1 more for the second fibre of the pair; n cells before and m cells behind stay; runs are
--- left out, which makes no difference (run-idle of Demand2)
+-- left out, which makes no difference (run_idle of Demand2)
 pub record Halved (n m : ℕ) (cs : List Circuit) (C C' : List ℕ) : Type 0 where
   pub needs : needs_in n C' ≡ needs_in n C
   pub halves : (j : ℕ) → j < m → get_or (rows_in n m C') j 0 ≡ 2 * get_or (rows_in n m C) j 0 + cond (on_first cs (rows_in n m C) (λ d. 0) j) 0 1

@@ -13,7 +13,7 @@ use Rattle.basics.proofs.Bools.{and_l, and_r, by_le, or_false_l, or_false_r}
 use Rattle.basics.proofs.Searches.{any_false}
 use Rattle.records.specs.Records.{record_at, circuit_of, number_in}
 use Rattle.records.specs.declared.Circuit.{Circuit}
-use Rattle.refusals.specs.Table.{whenever, wherever, bad_ends, has_number, repeats, row1, row2, row3, row4, row5, row6, row7}
+use Rattle.refusals.specs.Table.{whenever, wherever, no_end, wrong_end, bad_ends, has_number, repeats, row1, row2, row3, row4, row5, row6, row7}
 use Rattle.refusals.proofs.First.{record_none}
 
 -- a row that applies as a whole and does not apply: its test failed
@@ -56,7 +56,7 @@ passed4 = from_one 4
 -- 5: no circuit number is 0
 pub passed5 : (s : List ℕ) (m : ℕ) → (row5 s m) ≡ none → (i : ℕ) → i < m → 1 ≤ number_in s i
 passed5 s m e i h =
-    let z : number_in s i ≢ 0 = eqb-false (number_in s i) 0 (record_none (λ i. eqb (number_in s i) 0) m (wherever_none 5 _ _ e) i h) in
+    let z : number_in s i ≢ 0 = eqb-false (number_in s i) 0 (record_none (λ i. eqb (number_in s i) 0) m (wherever_none 5 no_end _ e) i h) in
     omega arith
 
 -- a circuit whose ends are not bad lies on the line
@@ -72,7 +72,7 @@ good_ends n c e =
 -- 6: every circuit lies on the line
 pub passed6 : (n : ℕ) (s : List ℕ) (m : ℕ) → (row6 n s m) ≡ none → (i : ℕ) → i < m
     → (1 ≤ (circuit_of (record_at s i)).first) × ((circuit_of (record_at s i)).first ≤ (circuit_of (record_at s i)).last) × ((circuit_of (record_at s i)).last ≤ n)
-passed6 n s m e i h = good_ends n (circuit_of (record_at s i)) (record_none (λ i. bad_ends n (circuit_of (record_at s i))) m (wherever_none 6 _ _ e) i h)
+passed6 n s m e i h = good_ends n (circuit_of (record_at s i)) (record_none (λ i. bad_ends n (circuit_of (record_at s i))) m (wherever_none 6 (λ x. wrong_end n (circuit_of (record_at s x))) _ e) i h)
 
 -- a record that does not repeat has another number than each before it
 pub not_before : (s : List ℕ) (j : ℕ) → repeats s j ≡ false → (i : ℕ) → i < j → number_in s i ≢ number_in s j
@@ -83,8 +83,8 @@ not_before s j e i h = eqb-false (number_in s i) (number_in s j) (any_false (has
 pub passed7 : (s : List ℕ) (m : ℕ) → (row7 s m) ≡ none → (i j : ℕ) → i < m → j < m → number_in s i ≡ number_in s j → i ≡ j
 passed7 s m e i j a b q =
     by_le i j
-    (λ l. by_le j i (λ g. omega arith) (λ g. absurd (not_before s j (record_none (repeats s) m (wherever_none 7 _ _ e) j b) i g q)))
-    (λ l. absurd (not_before s i (record_none (repeats s) m (wherever_none 7 _ _ e) i a) j l (sym q)))
+    (λ l. by_le j i (λ g. omega arith) (λ g. absurd (not_before s j (record_none (repeats s) m (wherever_none 7 no_end _ e) j b) i g q)))
+    (λ l. absurd (not_before s i (record_none (repeats s) m (wherever_none 7 no_end _ e) i a) j l (sym q)))
 
 -- 8 to 10: a lent area has the bytes that are needed
 pub passed_room : (number needed has : ℕ) → whenever number (ltb has needed) ≡ none → needed ≤ has
