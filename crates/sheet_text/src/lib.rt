@@ -1,4 +1,6 @@
 // The text of the sheet, and the line of a check, in a lent buffer.
+#![tactic(auto)]
+
 ghost use Rattle.std.specs.Prelude.{◌+◌, ◌*◌, ◌≤◌, length};
 ghost use Rattle.sheet_text.specs.Text.{no_line, refusal_line, sheet_text, yes_line};
 ghost use Rattle.text.specs.Wrote.{Wrote};
