@@ -1,4 +1,6 @@
 // Tests of two files of circuits, the old one first: places in the new file count on from the old one.
+#![tactic(auto)]
+
 ghost use Rattle.std.specs.Prelude.{◌≡◌, ◌++◌, ◌+◌, ◌*◌, ◌≤◌, length};
 ghost use Rattle.refusals.specs.Table.{tested, row5, row6, row7};
 ghost use Rattle.text.specs.Wrote.{Wrote};
