@@ -1,5 +1,7 @@
 // Phase one in the lent work area: loads, c(i), M, and the sheet row by row.
 // The work area, seen as 2-byte cells: n needs c(i), n last rows of links, m rows of circuits (0 while a circuit waits), m spare.
+#![tactic(auto)]
+
 mod choice;
 mod colours;
 pub mod loads;
