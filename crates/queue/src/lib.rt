@@ -1,5 +1,7 @@
 // The circuits that wait, by rising number, in a lent list of 4 m cells: m first links, m last links, m places in the file, and m cells that are nobody's.
 // A circuit that is taken out has first link 0, and so fits no run.
+#![tactic(auto)]
+
 ghost use Rattle.std.specs.Prelude.{◌≡◌, ◌*◌, ◌≤◌, length, replicate};
 ghost use Rattle.basics.specs.Tools.{part};
 ghost use Rattle.records.specs.Bytes.{cells_of};

@@ -1,6 +1,6 @@
 -- What the tests of a cell say, and how a search goes on. Assumes nothing.
-use Rattle.std.proofs.Common.{◌≡◌, ℕ, ◌+◌, ◌-◌, ◌*◌, ◌%◌, ◌<◌, ◌≤◌, Bool, true, false, not, ◌&&◌, leb, List, length, sym, ap, ◌∙◌, arith, le-leb}
-use borrow.Author.Tests.{lt-leb, not-true}
+use Rattle.std.proofs.Common.{◌≡◌, ℕ, ◌+◌, ◌-◌, ◌*◌, ◌%◌, ◌<◌, ◌≤◌, Bool, true, false, ◌&&◌, leb, List, length, sym, ap, ◌∙◌, arith, le-leb}
+use borrow.Author.Tests.{lt-leb}
 use Rattle.basics.specs.Tools.{any, seek}
 use Rattle.basics.proofs.Bools.{and_false, and_of, by_le}
 use Rattle.basics.proofs.Searches.{seek_here, seek_skip}
@@ -11,9 +11,9 @@ use Rattle.scans.specs.inner.Chunks.{CameTo}
 use Rattle.scans.specs.Scans.{both_within, cell_within, within}
 
 -- not below the bounds, and not above them
-pub within_hit : (b : Bounds) (x : ℕ) → b.low ≤ x → leb x b.high ≡ true → within b x ≡ true
+pub within_hit : (b : Bounds) (x : ℕ) → b.low ≤ x → x ≤ b.high → within b x ≡ true
 unfolding within
-within_hit b x l h = and_of _ _ (le-leb _ _ l) h
+within_hit b x l h = and_of _ _ (le-leb _ _ l) (le-leb _ _ h)
 
 -- below the bounds
 pub within_below : (b : Bounds) (x : ℕ) → x < b.low → within b x ≡ false
@@ -21,17 +21,17 @@ unfolding within
 within_below b x l = rw (lt-leb b.low x l)
 
 -- above the bounds
-pub within_above : (b : Bounds) (x : ℕ) → leb x b.high ≡ false → within b x ≡ false
+pub within_above : (b : Bounds) (x : ℕ) → b.high < x → within b x ≡ false
 unfolding within
-within_above b x h = rw h (and_false (leb b.low x))
+within_above b x h = rw (lt-leb x b.high h) (and_false (leb b.low x))
 
 -- the wrapping difference to the lower bound is small just where a number lies within the bounds
 pub within_wraps : (b : Bounds) (x d : ℕ) → b.low ≤ b.high → b.high < 65536 → d < 65536 → (d + b.low) % 65536 ≡ x → leb d (b.high - b.low) ≡ within b x
 within_wraps b x d o h f e =
     by_le b.low x
     (λ l. by_le x b.high
-    (λ r. le-leb d (b.high - b.low) (omega arith) ∙ sym (within_hit b x l (le-leb _ _ r)))
-    (λ r. lt-leb d (b.high - b.low) (omega arith) ∙ sym (within_above b x (lt-leb _ _ r))))
+    (λ r. le-leb d (b.high - b.low) (omega arith) ∙ sym (within_hit b x l r))
+    (λ r. lt-leb d (b.high - b.low) (omega arith) ∙ sym (within_above b x r)))
     (λ l. lt-leb d (b.high - b.low) (omega arith) ∙ sym (within_below b x l))
 
 -- what is read as cell i lies within the bounds where cell i does
@@ -45,8 +45,8 @@ unfolding both_within
 read_both a b s t p x y h k e f = rw (read_within a s p x h e, read_within b t p y k f)
 
 -- r tells that none of the next k places passes: it has come to place i + k
-pub came_skip : (p : ℕ → Bool) (from to i k : ℕ) (r : Bool) → CameTo p from to i → i + k ≤ to → r ≡ any (λ x. p (i + x)) k → not r ≡ true → CameTo p from to (i + k)
-came_skip p from to i k r c h e q = (omega (arith, c.0), h, sym (seek_skip p i k to h (sym e ∙ not-true r q)) ∙ c.2)
+pub came_skip : (p : ℕ → Bool) (from to i k : ℕ) (r : Bool) → CameTo p from to i → i + k ≤ to → r ≡ any (λ x. p (i + x)) k → r ≡ false → CameTo p from to (i + k)
+came_skip p from to i k r c h e q = (omega (arith, c.0), h, sym (seek_skip p i k to h (sym e ∙ q)) ∙ c.2)
 
 -- place i passes: it is found
 pub came_here : (p : ℕ → Bool) (from to i : ℕ) → CameTo p from to i → i < to → p i ≡ true → i ≡ seek p from (to - from)
