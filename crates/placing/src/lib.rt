@@ -2,6 +2,8 @@
 // Riders: cells 2 j and 2 j + 1 of `ends` hold the first and last link of the rider at place j, record j of `assigns` its fibre and wavelength.
 // heads, next: chains of riders by fibre, in any order; an entry is a place plus 1, and 0 ends a chain.
 // firsts, lasts, untils, froms: of each fibre its first and last link, and the corner of those whom it shuts out.
+#![tactic(auto)]
+
 mod riders;
 mod search;
 mod turns;
