@@ -1,4 +1,6 @@
 // Who rides on a link: an index of circuit numbers by link, built from two files, and the question for one link.
+#![tactic(auto)]
+
 ghost use Rattle.std.specs.Prelude.{◌≡◌, ◌++◌, ◌≤◌, length};
 ghost use Rattle.records.specs.Records.{circuits_in};
 ghost use Rattle.rows.specs.Accepted.{OnLine};

@@ -9,8 +9,8 @@ use lib.ListN.{length}
 use Rattle.basics.specs.Tools.{part}
 use Rattle.riders.proofs.StretchLaws.{stretch_within}
 use Rattle.riders.specs.Index.{stretch_at, riders_at}
-use Rattle.riders.proofs.riders_of.Statement.{statement}
-use Rattle.riders.proofs.riders_of.Tie as tie
+use Rattle.riders.proofs.riders_of.Goals as goal
+
     -- the stretch that was found is within the buffer
 
 found_within : (links link : ℕ) (index : List ℕ) (found : Stretch) → found ≡ stretch_at links link index → found.start + found.length ≤ length index
@@ -25,26 +25,14 @@ handed-back links link index found e =
     let z : found.start + found.length - found.start ≡ found.length = omega arith in
     ap (λ (k : ℕ). part found.start k index) z ∙ ap (λ (s : Stretch). part s.start s.length index) e
 
-add-end : tie.Need-overflow-add-end
-add-end c = let w = found_within _ _ _ _ c.before.where-riders.ensures in search rules
+pub overflow_add-end : goal.overflow_add-end
+overflow_add-end c = let w = found_within _ _ _ _ c.where_riders-found.ensures in search rules
 
-mul-result : tie.Need-overflow-mul-result
-mul-result c = let w = found_within _ _ _ _ c.before.where-riders.ensures in search rules
+pub offset_bounds-index-start : goal.offset_bounds-index-start
+offset_bounds-index-start c = let w = found_within _ _ _ _ c.where_riders-found.ensures in search rules
 
-part-result-end : tie.Need-slice-bounds-result-end
-part-result-end c = omega (arith, found_within _ _ _ _ c.before.where-riders.ensures)
+pub slice_bounds-result-end : goal.slice_bounds-result-end
+slice_bounds-result-end c = omega (arith, found_within _ _ _ _ c.where_riders-found.ensures)
 
-returns : tie.Need-returns
-returns c = let a = c.before.before.before.before.args in handed-back a.links a.link a.index.now c.before.before.where-riders.result c.before.before.where-riders.ensures
-
-pub riders-of-spec : {M : Type 1} → statement M
-riders-of-spec =
-    tie.close
-    (tie.spec
-    (λ c κs. search rules)
-    add-end
-    mul-result
-    (λ c. search rules)
-    (λ c. search rules)
-    part-result-end
-    returns)
+pub returns : goal.returns
+returns c = let a = c.args in handed-back a.links a.link a.index.now c.where_riders-found.result c.where_riders-found.ensures
