@@ -14,7 +14,7 @@ use Rattle.records.proofs.Files.{circuits_in_at, length_circuits_in}
 use Rattle.method.specs.Line.{circuit, nobody, Lies}
 use Rattle.refusals.specs.Given.{NoneApplies}
 use Rattle.refusals.specs.Refusals.{refusal_in}
-use Rattle.refusals.specs.Table.{has_number, row3, row6, tested, verdict}
+use Rattle.refusals.specs.Table.{has_number, no_end, row3, row6, tested, verdict}
 use Rattle.refusals.specs.declared.Verdict.{Verdict}
 use Rattle.refusals.specs.declared.Verdict.TheVariants.{Checked, Refused as Failed}
 use Rattle.refusals.proofs.Chain.{gives, leaves, accepts, piece_gives, piece_leaves}
@@ -105,7 +105,7 @@ module _ (n : ℕ) (old new : List ℕ) (has : ℕ) (passed : NoneApplies (index
   apart : (i j : ℕ) → i < k → j < m → number_in old i ≡ number_in new j → ⊥
   unfolding has_old
   apart i j h l e =
-      let z = record_none (has_old old k new) m (wherever_none 14 _ _ (later_out k _ of_others)) j l in
+      let z = record_none (has_old old k new) m (wherever_none 14 no_end _ (later_out k _ of_others)) j l in
       eqb-false (number_in old i) (number_in new j) (any_false (has_number old (number_in new j)) k z i h) e
 
   -- no number stands twice in both files

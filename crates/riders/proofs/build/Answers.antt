@@ -8,9 +8,9 @@ use Rattle.riders.proofs.build.Goals as goal
 
 pub by_number-requires : goal.by_number-requires
 by_number-requires c = record {
-      len = (c.requires.0.whole, c.requires.0.few);
-      numbers_len = (search rules, search rules, search rules);
-    }
+  len = (c.requires.0.whole, c.requires.0.few);
+  numbers_len = (search rules, search rules, search rules);
+}
 
 pub fill-requires : goal.fill-requires
 fill-requires c = let a = c.args in

@@ -1,5 +1,4 @@
 -- `index_riders`: what the tests refuse changes nothing, and what they accept is indexed. Assumes nothing.
-use borrow.Author.Rules.{rules}
 use Rattle.riders.proofs.Accepting.{may_build, refused, built}
 use Rattle.riders.proofs.index_riders.Goals as goal
 

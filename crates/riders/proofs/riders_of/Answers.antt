@@ -11,8 +11,7 @@ use Rattle.riders.proofs.StretchLaws.{stretch_within}
 use Rattle.riders.specs.Index.{stretch_at, riders_at}
 use Rattle.riders.proofs.riders_of.Goals as goal
 
-    -- the stretch that was found is within the buffer
-
+-- the stretch that was found is within the buffer
 found_within : (links link : ℕ) (index : List ℕ) (found : Stretch) → found ≡ stretch_at links link index → found.start + found.length ≤ length index
 found_within links link index found e =
     let a = ap (λ (s : Stretch). s.start) e in

@@ -1,5 +1,4 @@
 -- `where_riders`: each test in turn, and then the two starts. Assumes nothing.
-use borrow.Author.Rules.{rules}
 use mathlib.Core.Path.{◌∙◌}
 use native.Mathlib.Omega.{arith}
 use Rattle.riders.proofs.StretchLaws.{no_link, past_line, too_short, from_to, starts_fall, lead_past, part_between}

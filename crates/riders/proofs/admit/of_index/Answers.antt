@@ -1,5 +1,4 @@
 -- `of_index`, piece by piece. Assumes nothing.
-use borrow.Author.Rules.{rules}
 use Rattle.two_files.proofs.Told.{tells_both, files_old, files_new, files_few, records_unlike}
 use Rattle.refusals.proofs.Chain.{leaves, piece_leaves}
 use Rattle.riders.proofs.Accepting.{chain, line_short, room_told, records_lie}
@@ -23,9 +22,9 @@ returns-in_default-each c = search chain
 
 pub unlike_old-others-requires : goal.unlike_old-others-requires
 unlike_old-others-requires c = record {
-      k_value = (files_old _ _ _ _ _ c.of_files-files.ensures c.in-Checked.is, files_new _ _ _ _ _ c.of_files-files.ensures c.in-Checked.is, files_few _ _ _ _ _ c.of_files-files.ensures c.in-Checked.is);
-      unlike = records_unlike _ _ _ _ _ _ _ _ c.of_records-each.ensures c.in-Checked-each.is;
-    }
+  k_value = (files_old _ _ _ _ _ c.of_files-files.ensures c.in-Checked.is, files_new _ _ _ _ _ c.of_files-files.ensures c.in-Checked.is, files_few _ _ _ _ _ c.of_files-files.ensures c.in-Checked.is);
+  unlike = records_unlike _ _ _ _ _ _ _ _ c.of_records-each.ensures c.in-Checked-each.is;
+}
 
 pub returns-in_default-others : goal.returns-in_default-others
 unfolding index_table

@@ -1,6 +1,6 @@
 -- `spans`: the sum of the loads of the first j circuits. Assumes nothing.
 use borrow.Author.Rules.{rules}
-use Prim.Native.Nat.{ℕ, ◌-◌, ◌*◌, ◌<◌, ◌≤◌}
+use Prim.Native.Nat.{ℕ, ◌<◌}
 use mathlib.Core.Path.{◌≡◌, ◌∙◌, sym, subst}
 use mathlib.Core.List.{List}
 use native.Mathlib.Omega.{arith}
@@ -10,15 +10,14 @@ use Rattle.records.specs.Records.{record_at, circuit_of, circuits_in}
 use Rattle.records.proofs.Files.{length_circuits_in}
 use Rattle.method.specs.Line.{Lies}
 use Rattle.method.proofs.Circuits.{circuit_in_lem, OnLine, lies_at}
-use Rattle.riders.proofs.LoadLaws.{sum_to, sum_to_none, sum_to_more, sum_to_all}
+use Rattle.riders.proofs.LoadLaws.{sum_to_none, sum_to_more, sum_to_all}
 use Rattle.riders.proofs.admit.spans.Goals as goal
 
+-- circuit j lies on the line
 online-at : (n m j : ℕ) (s : List ℕ) (c : Circuit) → Lies n (circuits_in m s) → c ≡ circuit_of (record_at s j) → j < m → OnLine n c.first c.last
 online-at n m j s c l e h =
     let o = lies_at n m s j l h in
     subst (λ (d : Circuit). OnLine n d.first d.last) (sym e) o
-
-    -- circuit j lies on the line
 
 pub loop-j-init : goal.loop-j-init
 loop-j-init c = (search rules, sym (sum_to_none _ _), search rules)

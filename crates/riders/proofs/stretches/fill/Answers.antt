@@ -1,17 +1,15 @@
 -- `fill`: one link more. Assumes nothing.
 use borrow.Author.Rules.{rules}
-use Prim.Native.Nat.{ℕ, ◌+◌, ◌-◌, ◌<◌, ◌≤◌}
-use mathlib.Core.Path.{◌≡◌, refl, ◌∙◌}
-use mathlib.Core.Option.{some}
+use Prim.Native.Nat.{ℕ, ◌+◌, ◌<◌, ◌≤◌}
+use mathlib.Core.Path.{refl, ◌∙◌}
 use native.Mathlib.Omega.{arith}
 use lib.ListN.{length, set, length-set}
 use lib.Seq.{get_or-set_same}
-use Rattle.method.specs.Sheet.{at}
-use Rattle.riders.proofs.FillLaws.{Filled, filled_start, filled_done, index_from, first_pos, link_room, link_end, link_turn}
+use Rattle.riders.proofs.FillLaws.{filled_start, filled_done, index_from, first_pos, link_room, link_end, link_turn}
 use Rattle.riders.proofs.PickLaws.{length_rows, near_none, near_on}
 use Rattle.riders.proofs.StartLaws.{starts_in, cells_few}
 use Rattle.riders.specs.Index.{cells_for}
-use Rattle.riders.specs.inner.Picks.{rows, Near, near_to}
+use Rattle.riders.specs.inner.Picks.{rows}
 use Rattle.riders.proofs.stretches.fill.Goals as goal
 
 pub overflow_add-past : goal.overflow_add-past
@@ -38,9 +36,9 @@ loop-link-init c = let a = c.args in
 
 pub near_link-k-requires : goal.near_link-k-requires
 near_link-k-requires c = record {
-      m_in_bounds = (c.requires.m_in_bounds.1, c.requires.m_in_bounds.2, c.requires.m_in_bounds.3, c.loop-link.invariant.0, omega (arith, c.loop-link-test.true, c.requires.m_in_bounds.4), c.loop-link.invariant.2);
-      near = c.loop-link.invariant.4;
-    }
+  m_in_bounds = (c.requires.m_in_bounds.1, c.requires.m_in_bounds.2, c.requires.m_in_bounds.3, c.loop-link.invariant.0, omega (arith, c.loop-link-test.true, c.requires.m_in_bounds.4), c.loop-link.invariant.2);
+  near = c.loop-link.invariant.4;
+}
 
 pub put_stretch-at-requires : goal.put_stretch-at-requires
 put_stretch-at-requires c = let a = c.args in

@@ -1,16 +1,8 @@
 -- `fill`: one link more. Assumes nothing.
-use borrow.Author.Rules.{rules}
-use Prim.Native.Nat.{ℕ, ◌+◌, ◌-◌, ◌<◌, ◌≤◌}
-use mathlib.Core.Path.{◌≡◌, refl, ◌∙◌}
-use mathlib.Core.Option.{some}
-use native.Mathlib.Omega.{arith}
-use lib.ListN.{length, set, length-set}
-use lib.Seq.{get_or-set_same}
-use Rattle.method.specs.Sheet.{at}
-use Rattle.riders.proofs.FillLaws.{Filled, filled_start, filled_done, index_from, first_pos, link_room, link_end, link_turn}
-use Rattle.riders.proofs.PickLaws.{length_rows, near_none, near_on}
-use Rattle.riders.proofs.StartLaws.{starts_in, cells_few}
-use Rattle.riders.specs.Index.{cells_for}
+use Prim.Native.Nat.{◌-◌, ◌≤◌}
+use mathlib.Core.Path.{◌≡◌}
+use lib.ListN.{length}
+use Rattle.riders.proofs.FillLaws.{Filled}
 use Rattle.riders.specs.inner.Picks.{rows, Near, near_to}
 use Rattle.riders.proofs.stretches.fill.Given as goal
 

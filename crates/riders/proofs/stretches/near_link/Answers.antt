@@ -1,5 +1,4 @@
 -- `near_link`: the shortlist that is there, or a new one. Assumes nothing.
-use borrow.Author.Rules.{rules}
 use Rattle.riders.proofs.PickLaws.{near_same, near_anew}
 use Rattle.riders.proofs.stretches.near_link.Goals as goal
 

@@ -1,7 +1,6 @@
 -- `put_if`: one of two cases. Assumes nothing.
 use borrow.Author.Rules.{rules}
 use mathlib.Core.Path.{refl}
-use borrow.Author.Tests.{not-true, not-false}
 use Rattle.basics.proofs.Bools.{clash}
 use Rattle.riders.proofs.stretches.put_if.Goals as goal
 

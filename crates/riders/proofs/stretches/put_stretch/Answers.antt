@@ -1,12 +1,11 @@
 -- `put_stretch`: one of the shortlist more. Assumes nothing.
 use borrow.Author.Rules.{rules}
-use Prim.Native.Nat.{ℕ, ◌-◌, ◌≤◌}
+use Prim.Native.Nat.{ℕ}
 use mathlib.Core.Path.{◌≡◌, ap, ◌∙◌, sym, subst}
 use mathlib.Core.Bool.{◌&&◌}
 use native.Mathlib.Omega.{arith}
 use lib.ListN.{length, get_or}
 use lib.Dec.{leb}
-use Rattle.method.specs.Sheet.{at}
 use Rattle.riders.proofs.PickLaws.{stretched_none, stretched_turn, stretched_room}
 use Rattle.riders.specs.inner.Picks.{meets, listed, number_in, Stretched}
 use Rattle.riders.proofs.stretches.put_stretch.Goals as goal
@@ -30,7 +29,7 @@ pub put_if-end-requires : goal.put_if-end-requires
 unfolding listed meets
 put_if-end-requires c = let a = c.args in
     let same = ap (λ (z : ℕ). leb (get_or a.firsts.now z 0) a.link && leb a.link (get_or a.lasts.now z 0)) c.index-p.ensures.0 in
-    λ t. omega (arith, c.loop-q.invariant.1, stretched_room (listed a.link a.firsts.now a.lasts.now a.near.now) (number_in a.numbers.now a.near.now) c.loop-q.q a.at a.index.now c.loop-q.end c.loop-q.index c.loop-q.invariant.2 a.k (length a.index.now) c.requires.1 c.loop-q-test.true (sym same ∙ sym c.Meets-any.ensures ∙ t))
+    λ t. omega (arith, c.loop-q.invariant.1, stretched_room (listed a.link a.firsts.now a.lasts.now a.near.now) (number_in a.numbers.now a.near.now) c.loop-q.q a.at a.index.now c.loop-q.end c.loop-q.index c.loop-q.invariant.2 a.k (length a.index.now) c.requires.1 c.loop-q-test.true (sym same ∙ sym c.meets_any.ensures ∙ t))
 
 pub loop-q-preserved : goal.loop-q-preserved
 unfolding listed meets number_in
@@ -38,7 +37,7 @@ loop-q-preserved c = let a = c.args in
     let same = ap (λ (z : ℕ). leb (get_or a.firsts.now z 0) a.link && leb a.link (get_or a.lasts.now z 0)) c.index-p.ensures.0 in (
       search rules,
       c.put_if-end.auto.index ∙ c.loop-q.invariant.1,
-      stretched_turn (listed a.link a.firsts.now a.lasts.now a.near.now) (number_in a.numbers.now a.near.now) c.loop-q.q a.at a.index.now c.loop-q.end c.loop-q.index c.loop-q.invariant.2 c.Meets-any.result (c.Meets-any.ensures ∙ same) a.k c.loop-q-test.true c.requires.1 _ _ _ (ap (λ (z : ℕ). get_or a.numbers.now z 0) c.index-p.ensures.0) c.put_if-end.ensures,
+      stretched_turn (listed a.link a.firsts.now a.lasts.now a.near.now) (number_in a.numbers.now a.near.now) c.loop-q.q a.at a.index.now c.loop-q.end c.loop-q.index c.loop-q.invariant.2 c.meets_any.result (c.meets_any.ensures ∙ same) a.k c.loop-q-test.true c.requires.1 _ _ _ (ap (λ (z : ℕ). get_or a.numbers.now z 0) c.index-p.ensures.0) c.put_if-end.ensures,
     )
 
 pub returns : goal.returns

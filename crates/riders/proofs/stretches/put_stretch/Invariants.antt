@@ -1,14 +1,8 @@
 -- `put_stretch`: one of the shortlist more. Assumes nothing.
-use borrow.Author.Rules.{rules}
-use Prim.Native.Nat.{ℕ, ◌-◌, ◌≤◌}
-use mathlib.Core.Path.{◌≡◌, ap, ◌∙◌, sym, subst}
-use mathlib.Core.Bool.{◌&&◌}
-use native.Mathlib.Omega.{arith}
-use lib.ListN.{length, get_or}
-use lib.Dec.{leb}
-use Rattle.method.specs.Sheet.{at}
-use Rattle.riders.proofs.PickLaws.{stretched_none, stretched_turn, stretched_room}
-use Rattle.riders.specs.inner.Picks.{meets, listed, number_in, Stretched}
+use Prim.Native.Nat.{◌-◌, ◌≤◌}
+use mathlib.Core.Path.{◌≡◌}
+use lib.ListN.{length}
+use Rattle.riders.specs.inner.Picks.{listed, number_in, Stretched}
 use Rattle.riders.proofs.stretches.put_stretch.Given as goal
 
 abbrev pub invariant-loop-q : goal.invariant-loop-q

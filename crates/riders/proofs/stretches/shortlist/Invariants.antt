@@ -1,11 +1,7 @@
 -- `shortlist`: one place more, which stays if it passes. Assumes nothing.
-use borrow.Author.Rules.{rules}
-use Prim.Native.Nat.{ℕ, ◌-◌, ◌<◌, ◌≤◌}
-use mathlib.Core.Path.{◌≡◌, refl, ap, ◌∙◌, subst}
-use mathlib.Core.Bool.{Bool, cond}
-use native.Mathlib.Omega.{arith}
+use Prim.Native.Nat.{◌-◌, ◌≤◌}
+use mathlib.Core.Path.{◌≡◌}
 use lib.ListN.{length}
-use Rattle.riders.proofs.PickLaws.{picked_none, picked_turn}
 use Rattle.riders.specs.inner.Picks.{meets, Picked}
 use Rattle.riders.proofs.stretches.shortlist.Given as goal
 
