@@ -12,7 +12,7 @@ use Rattle.method.specs.Demands.{Rearranged, SamePlan}
 use Rattle.method.specs.Line.{Assignment, Distinct, Fibre, Lies, assigned, circuit, total, unassigned}
 use Rattle.register.specs.Plans.{place_of}
 use Rattle.places.specs.Places.{free, given_to, riders}
-use Rattle.places.specs.Turns.{by_number, number}
+use Rattle.places.specs.Turns.{by_number}
 use Rattle.places.proofs.Parts.{rearranged_self}
 use Rattle.places.proofs.PlaceLaws.{free_any_order}
 use Rattle.places.proofs.RiderLaws.{same_riders}

@@ -15,7 +15,6 @@ use Rattle.records.specs.declared.Circuit.{Circuit}
 use Rattle.method.specs.Demands.{OwnLinks}
 use Rattle.method.specs.Fibres.{on_first, on_first_by, together}
 use Rattle.method.specs.Line.{circuit, overlap}
-use Rattle.method.specs.Sheet.{rows}
 use Rattle.method.proofs.Intervals.{lasts_differ, middle}
 use Rattle.method.proofs.Links.{overlap_r, overlap_sym}
 

@@ -1,1 +1,3 @@
+#![tactic(auto)]
+
 // The two-phase method on lists of circuits: definitions and theorems. No function.

@@ -2,7 +2,6 @@
 use native.Mathlib.Omega.{arith}
 use mir.Syntax.{w32}
 use mir.Facts.{to_z_pos, to_z-of_z}
-use borrow.Author.Rules.{rules}
 use Rattle.grid.specs.Frequencies.{anchor_of, channel_of}
 use Rattle.grid.proofs.FrequencyLaws.{anchor_small, channel_fits}
 use Rattle.grid.proofs.channel.Goals as goal

@@ -4,9 +4,8 @@ use native.Mathlib.Omega.{arith}
 use lib.IntN.{ℤ, pos, ◌*ℤ◌}
 use lib.Signed.{pos-nat_abs}
 use mir.Syntax.{w32}
-use mir.Val.{SFits, to_z, of_z}
+use mir.Val.{to_z, of_z}
 use mir.Facts.{to_z_pos, to_z-of_z, Fits-nat_abs}
-use borrow.Author.Rules.{rules}
 use Rattle.grid.specs.Frequencies.{spacing_of, channel_of, frequency_of}
 use Rattle.grid.proofs.FrequencyLaws.{spacing_small, channel_fits, product_fits, frequency_fits, frequency_pos}
 use Rattle.std.proofs.Common.{ℕ, ◌<◌}

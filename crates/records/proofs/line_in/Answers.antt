@@ -1,5 +1,4 @@
 -- `line_in` meets its contract: it compares the length with 4 and with 6. Assumes nothing.
-use borrow.Author.Rules.{rules}
 use borrow.Author.Tests.{eq-eqb, ne_eqb}
 use Rattle.records.specs.LineFiles.{line_in}
 use Rattle.records.proofs.line_in.Goals as goal

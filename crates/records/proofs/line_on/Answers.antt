@@ -1,5 +1,4 @@
 -- `line_on` meets its contract: it reads two numbers. Assumes nothing.
-use borrow.Author.Rules.{rules}
 use Rattle.records.specs.LineFiles.{line_on}
 use Rattle.records.proofs.line_on.Goals as goal
 

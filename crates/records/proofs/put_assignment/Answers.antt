@@ -1,5 +1,4 @@
 -- `put_assignment` meets its contract: the four cells that it writes are the assignment's fields, the low half of the circuit number first. Assumes nothing.
-use borrow.Author.Rules.{rules}
 use Rattle.records.proofs.Parts.{put_wide}
 use Rattle.records.proofs.put_assignment.Goals as goal
 

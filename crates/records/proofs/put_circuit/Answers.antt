@@ -1,5 +1,4 @@
 -- `put_circuit` meets its contract: the four cells that it writes are the circuit's fields, the low half of its number first. Assumes nothing.
-use borrow.Author.Rules.{rules}
 use Rattle.records.proofs.Parts.{put_wide}
 use Rattle.records.proofs.put_circuit.Goals as goal
 

@@ -1,5 +1,4 @@
 -- `put_fibre` meets its contract: the four cells that it writes are the fibre's fields. Assumes nothing.
-use borrow.Author.Rules.{rules}
 use Rattle.records.specs.Bytes.{encode}
 use Rattle.records.proofs.put_fibre.Goals as goal
 

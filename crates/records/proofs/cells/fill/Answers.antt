@@ -1,8 +1,7 @@
 -- `fill` meets its contract: after i turns the first i bytes are v. Assumes nothing.
-use Prim.Native.Nat.{◌≤◌, ◌<◌, ◌-◌}
+use Prim.Native.Nat.{◌<◌}
 use mathlib.Core.Path.{◌≡◌, refl}
-use mathlib.Core.List.{◌++◌}
-use lib.ListN.{length, drop, replicate, length-set}
+use lib.ListN.{length, length-set}
 use native.Mathlib.Omega.{arith}
 use borrow.Author.Rules.{rules}
 use borrow.Author.Fill.{fill_more}

@@ -1,11 +1,8 @@
 -- `fill` meets its contract: after i turns the first i bytes are v. Assumes nothing.
-use Prim.Native.Nat.{◌≤◌, ◌<◌, ◌-◌}
-use mathlib.Core.Path.{◌≡◌, refl}
+use Prim.Native.Nat.{◌≤◌, ◌-◌}
+use mathlib.Core.Path.{◌≡◌}
 use mathlib.Core.List.{◌++◌}
-use lib.ListN.{length, drop, replicate, length-set}
-use native.Mathlib.Omega.{arith}
-use borrow.Author.Rules.{rules}
-use borrow.Author.Fill.{fill_more}
+use lib.ListN.{length, drop, replicate}
 use Rattle.records.proofs.cells.fill.Given as goal
 
 abbrev pub invariant-loop-i : goal.invariant-loop-i

@@ -1,6 +1,5 @@
 -- `put` meets its contract: its two stores are those of `set_cell`. Assumes nothing.
 use mathlib.Core.Path.{refl}
-use borrow.Author.Rules.{rules}
 use Rattle.records.specs.Bytes.{set_cell}
 use Rattle.records.proofs.cells.put.Goals as goal
 
