@@ -41,16 +41,27 @@ make_room() {
   trap 'rm -rf -- "$room"' EXIT
 }
 
+# A source that is newer than a program, if there is one. The folders `out`, which builds make, hold none.
+newer_source() { # PROGRAM
+  (cd "$top" && find crates.txt crates -type d -path 'crates/*' ! -path 'crates/*/*' -o -name out -prune -o -newer "$1" -print -quit)
+}
+
 # Builds a program unless it is there and no source is newer. It then has the time at which the build began, so that
 # a source that was edited meanwhile is newer.
 build() { # PROGRAM
   local program=$top/target/bin/$1
-  if [ -x "$program" ] && [ -z "$(find "$top/crates.txt" "$top/crates" -newer "$program" -print -quit)" ]; then
+  if [ -x "$program" ] && [ -z "$(newer_source "$program")" ]; then
     return
   fi
   : >"$room/began"
-  (cd "$top" && rt check "$1") >&2 || fail 3 "$1 could not be built"
-  [ -x "$program" ] || fail 3 "all is proved, but there is no $program: remove $top/target"
+  # A program is proved and built as it is first run; here it finds no files and no input, and writes none.
+  if ! (cd "$top/crates/$1" && rt run "$1") </dev/null >"$room/first"; then
+    cat -- "$room/first" >&2
+    fail 3 "$1 could not be built"
+  fi
+  mkdir -p "$top/target/bin"
+  cp -- "$top/crates/$1/out/$1" "$program.new" && mv -- "$program.new" "$program" ||
+    fail 3 "all is proved, but there is no $1 in crates/$1/out: remove that folder"
   touch -r "$room/began" "$program"
 }
 

@@ -28,6 +28,9 @@ impl House {
         for folder in ["crates/sheet/src", "target/bin", "tools", "room", "scripts"] {
             house.folder.put_folder(folder);
         }
+        for program in ["lists", "adds", "checks", "typed"] {
+            house.folder.put_folder(&format!("crates/{program}"));
+        }
         house.folder.allow("room", 0o777);
         house.folder.put("crates.txt", b"");
         house.folder.put("crates/sheet/src/main.rt", b"");
@@ -113,7 +116,7 @@ impl House {
     /// An `rt` that notes its call, says something, and makes the program that it is asked for.
     pub fn build_by_copy(&self, then: &str) {
         let text = format!(
-            "echo \"$*\" >>'{}'; echo proved; mkdir -p target/bin; cp '{}/'$2 target/bin/$2; {then}",
+            "echo \"$*\" >>'{}'; echo proved >&2; mkdir -p out; cp '{}/'$2 out/$2; cd ../..; {then}",
             self.path("calls"),
             program("sheet").parent().unwrap().display()
         );

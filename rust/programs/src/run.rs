@@ -52,7 +52,7 @@ pub fn program(name: &str) -> PathBuf {
     let path = folder.join(name);
     assert!(
         path.is_file(),
-        "no {}: run `rt check {name}` in the repository, or set FIBRE_PLAN_BIN_DIR to the folder of the programs",
+        "no {}: run `scripts/build {name}` in the repository, or set FIBRE_PLAN_BIN_DIR to the folder of the programs",
         path.display()
     );
     path

@@ -144,7 +144,7 @@ fn it_is_built_where_it_is_not_there() {
     let ran = house.run(&["records"]);
     let ended = (ran.out.as_str(), ran.err.as_str(), ran.status);
     assert_eq!(ended, (sheet.as_str(), "proved\n", Some(0)));
-    assert_eq!(house.calls(), ["check adds"]);
+    assert_eq!(house.calls(), ["run adds"]);
     house.age("crates.txt", 1);
     house.age("target/bin/adds", 500);
     house.script("tools/rt", "exit 1");

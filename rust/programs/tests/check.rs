@@ -266,7 +266,7 @@ fn it_is_built_where_it_is_not_there() {
     let ran = house.run(&["records"]);
     let ended = (ran.out.as_str(), ran.err.as_str(), ran.status);
     assert_eq!(ended, ("Y 9 6\n", "proved\n", Some(0)));
-    assert_eq!(house.calls(), ["check checks"]);
+    assert_eq!(house.calls(), ["run checks"]);
     printed(house.run(&["records"]), "Y 9 6\n", 0);
     house.age("crates.txt", 1);
     house.age("target/bin/checks", 500);

@@ -159,7 +159,7 @@ fn it_is_built_where_it_is_not_there() {
     let ran = house.run(&["--keep", "records"]);
     assert_same(&ran.out, &sheet);
     assert_eq!((ran.err.as_str(), ran.status), ("proved\n", Some(0)));
-    assert_eq!(house.calls(), ["check lists"]);
+    assert_eq!(house.calls(), ["run lists"]);
     printed(house.run(&["--keep", "records"]), &sheet, 0);
     assert!(house.calls().is_empty());
     house.age("crates.txt", 1);

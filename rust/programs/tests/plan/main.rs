@@ -207,7 +207,7 @@ fn cdpath_does_not_matter() {
     printed(run_command(&mut command, b""), &sheet, 0);
     fs::remove_file(house.built("sheet")).unwrap();
     told(run_command(&mut command, b""), "there is no", 3);
-    assert_eq!(house.calls(), ["check sheet"]);
+    assert_eq!(house.calls(), ["run sheet"]);
 }
 
 #[test]
@@ -342,7 +342,7 @@ fn what_is_missing_is_built() {
     let ran = house.run(&["records"]);
     assert_same(&ran.out, &sheet);
     assert_eq!((ran.err.as_str(), ran.status), ("proved\n", Some(0)));
-    assert_eq!(house.calls(), ["check sheet"]);
+    assert_eq!(house.calls(), ["run sheet"]);
     printed(house.run(&["records"]), &sheet, 0);
     assert!(house.calls().is_empty());
 }
@@ -364,7 +364,7 @@ fn what_is_out_of_date_is_built_once() {
         assert_same(&ran.out, &sheet);
         assert_eq!(
             (house.calls(), ran.status),
-            (vec!["check sheet".to_owned()], Some(0))
+            (vec!["run sheet".to_owned()], Some(0))
         );
         printed(house.run(&["records"]), &sheet, 0);
         assert!(house.calls().is_empty(), "{source}");
@@ -378,11 +378,11 @@ fn an_edit_during_a_build_is_built_next() {
     house.listing("records");
     fs::remove_file(house.built("sheet")).unwrap();
     house.build_by_copy(
-        "sleep 0.05; echo >>crates/sheet/src/main.rt; sleep 0.05; touch target/bin/$2",
+        "sleep 0.05; echo >>crates/sheet/src/main.rt; sleep 0.05; touch crates/$2/out/$2",
     );
     for _ in 0..2 {
         assert_eq!(house.run(&["records"]).status, Some(0));
-        assert_eq!(house.calls(), ["check sheet"]);
+        assert_eq!(house.calls(), ["run sheet"]);
     }
 }
 
@@ -394,7 +394,7 @@ fn a_text_has_its_programs_built() {
     house.build_by_copy("");
     let ran = house.run(&["text"]);
     assert_eq!((ran.out.as_str(), ran.status), ("T 0 0 0\n", Some(0)));
-    assert_eq!(house.calls(), ["check typed"]);
+    assert_eq!(house.calls(), ["run typed"]);
 }
 
 #[test]
