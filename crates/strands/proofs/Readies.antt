@@ -66,14 +66,16 @@ module _ {n w m from top : ℕ} {s : List ℕ} {lent : Areas} (rd : Ready n w m 
   pub pairs_few : length (layers_in n top lent.work) ≤ m
   pairs_few = omega (arith, ap length pairs_are, few_pairs n w cs (lies_there n cs lies) waves, length_circuits_in m s)
 
-  -- BEFORE THE PAIRS: what their function asks
+  -- BEFORE THE PAIRS: what their function asks of the work area
+  pub parts_ready : HasParts n m top lent.work
+  parts_ready = let a = rd.accepted in record { long = rd.filled.sized; line = omega arith; few = omega arith; layers = top_few }
+
+  -- and of the table
   pub pairs_ready : {table₀ : List ℕ} → length table₀ ≡ 2048 → HasParts n m top lent.work × HasPairs (length (layers_in n top lent.work)) table₀
   pairs_ready e =
       let a = rd.accepted in
-      let k = pairs_few in (
-        record { long = rd.filled.sized; line = omega arith; few = omega arith; layers = top_few },
-        record { room = omega arith; few = omega arith },
-      )
+      let k = pairs_few in
+      (parts_ready, record { room = omega arith; few = omega arith })
 
   -- AFTER THE PAIRS
   module _ {b₁ table₀ table : List ℕ} {count : ℕ} (put : PairsPut n m top lent.work b₁ table₀ table count) where

@@ -1,4 +1,6 @@
 // Phase two: from rows to fibres, and no dark ones.
+#![tactic(auto)]
+
 mod assigns;
 pub mod needs;
 mod pairs;
