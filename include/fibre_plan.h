@@ -1,7 +1,7 @@
 /* A fibre planner that is proved: every circuit of a line gets a fibre and a wavelength. Circuits can be added to a plan, and none is
  * moved. A damaged register can be mended. And a check of any plan, whoever made it.
  *
- * Build the archive with `rt staticlib exports`, and link target/staticlib/libexports.a (x86-64 Linux).
+ * Build the archive with `scripts/archive`, and link target/staticlib/libexports.a (x86-64 Linux).
  * The functions keep nothing between calls and allocate nothing; fibre_plan uses less than 48 KB of stack, fibre_check less than 64 KB,
  * fibre_add and fibre_mend less than 96 KB. Several threads may call them at the same time, each with areas of its own to be written.
  *

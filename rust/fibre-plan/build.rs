@@ -1,4 +1,4 @@
-//! Finds the archive that `rt staticlib exports` writes, and links it.
+//! Finds the archive that `scripts/archive` writes, and links it.
 use std::env;
 use std::path::{Path, PathBuf};
 
@@ -19,7 +19,7 @@ fn main() {
     println!("cargo::rerun-if-changed={}", archive.display());
     if !archive.is_file() {
         println!(
-            "cargo::error=no {}: run `rt staticlib exports` in the repository, or set FIBRE_PLAN_LIB_DIR to the folder of libexports.a",
+            "cargo::error=no {}: run `scripts/archive` in the repository, or set FIBRE_PLAN_LIB_DIR to the folder of libexports.a",
             archive.display()
         );
     }
