@@ -15,7 +15,7 @@ use Rattle.records.specs.declared.Line.{Line}
 use Rattle.records.proofs.Files.{circuits_in_at, length_circuits_in}
 use Rattle.method.specs.Line.{Distinct, circuit, nobody}
 use Rattle.refusals.specs.Given.{NoneApplies}
-use Rattle.refusals.specs.Table.{bad_ends, first_record, no_end, repeats, whenever, wherever, file_rows, line_rows, record_rows, circuit_rows, area_rows, plan_table}
+use Rattle.refusals.specs.Table.{bad_ends, first_record, no_end, repeats, whenever, wherever, wrong_end, file_rows, line_rows, record_rows, circuit_rows, area_rows, plan_table}
 use Rattle.refusals.proofs.First.{record_none}
 use Rattle.refusals.proofs.FirstLaws.{first_end}
 use Rattle.refusals.proofs.Passed.{passed2, passes_room, wherever_none}
@@ -77,7 +77,7 @@ module _ (line : Line) (s s' : List ℕ) (among : Among s s') (passed : NoneAppl
   records_pass =
       let p = of_records line s passed in
       none_more _ _ (none_either 5 no_end no_end (λ c. eqb c.number 0) (none_first _ _ p))
-      (none_more _ _ (none_either 6 _ _ (bad_ends line.links) (none_first _ _ (none_rest _ _ p)))
+      (none_more _ _ (none_either 6 (λ x. wrong_end line.links (circuit_of (record_at s x))) (λ x. wrong_end line.links (circuit_of (record_at s' x))) (bad_ends line.links) (none_first _ _ (none_rest _ _ p)))
       (none_more _ _ (ap (wherever 7 no_end) no_repeat) none_end))
 
   -- so tests 1 to 7 and 12

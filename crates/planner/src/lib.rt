@@ -1,4 +1,6 @@
 // The planner: tests, phase one, phase two, zeroing.
+#![tactic(auto)]
+
 ghost use Rattle.register.specs.Areas.{areas};
 ghost use Rattle.planner.specs.Outcome.{Outcome};
 ghost use Rattle.planner.specs.Settled.{Admitted, Settled};
