@@ -1,4 +1,6 @@
 // The check of a plan in records: the tests, then the eight rules.
+#![tactic(auto)]
+
 mod admit;
 pub mod measures;
 pub mod rules;
