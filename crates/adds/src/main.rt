@@ -6,23 +6,28 @@ ghost use Rattle.prints.specs.Adding.{AddRead};
 use files::Moved;
 use files::pair::Replacement;
 use prints::adding::Grown;
+use std::io::Print;
+use std::rt::Files;
 
 // Writes the three files, and prints the sheet.
-fn keep(circuits: &[u8], fibres: &[u8], assigns: &[u8], text: &[u8]) {
-    let plan = files::pair::replace_plan(circuits, fibres, assigns);
+fn keep<R: Files + Print>(rt: &R, circuits: &[u8], fibres: &[u8], assigns: &[u8], text: &[u8]) {
+    let plan = files::pair::replace_plan(rt, circuits, fibres, assigns);
     match plan {
-        Replacement::Done => files::write_output(text),
+        Replacement::Done => files::write_output(rt, text),
         Replacement::NotWritten => files::write_output(
+            rt,
             b"circuits.rec, fibres.rec and assign.rec cannot be written\n",
         ),
         Replacement::NotNamed => files::write_output(
+            rt,
             b"circuits.rec, fibres.rec and assign.rec cannot be replaced\n",
         ),
     };
 }
 
 // From what reading the five files gave, keeps the grown plan and prints its sheet, or prints the refusal.
-fn grow_and_keep(
+fn grow_and_keep<R: Files + Print>(
+    rt: &R,
     got_line: Moved,
     line: &[u8],
     got_circuits: Moved,
@@ -56,15 +61,22 @@ fn grow_and_keep(
             fibres: f,
             assigns: a,
             text: k,
-        } => keep(&circuits[0..c], &fibres[0..f], &assigns[0..a], &out[0..k]),
+        } => keep(
+            rt,
+            &circuits[0..c],
+            &fibres[0..f],
+            &assigns[0..a],
+            &out[0..k],
+        ),
         Grown::Neither(k) => {
-            files::write_output(&out[0..k]);
+            files::write_output(rt, &out[0..k]);
         }
     }
 }
 
 // Reads all five files: of each list a record more than an addition takes.
-fn read_and_keep(
+fn read_and_keep<R: Files + Print>(
+    rt: &R,
     line: &mut [u8],
     circuits: &mut [u8],
     new: &mut [u8],
@@ -74,12 +86,13 @@ fn read_and_keep(
 )
     requires { (length line.old ≡ 7) × (length circuits.old ≡ 16392) × (length new.old ≡ 16392) × ((length fibres.old ≡ 32776) × (length assigns.old ≡ 32776) × (213072 ≤ length out.old)) }
 {
-    let got_line = files::read_file(b"line.rec", line);
-    let got_circuits = files::read_file(b"circuits.rec", circuits);
-    let got_new = files::read_file(b"new.rec", new);
-    let got_fibres = files::read_file(b"fibres.rec", &mut fibres[0..16392]);
-    let got_assigns = files::read_file(b"assign.rec", &mut assigns[0..16392]);
+    let got_line = files::read_file(rt, b"line.rec", line);
+    let got_circuits = files::read_file(rt, b"circuits.rec", circuits);
+    let got_new = files::read_file(rt, b"new.rec", new);
+    let got_fibres = files::read_file(rt, b"fibres.rec", &mut fibres[0..16392]);
+    let got_assigns = files::read_file(rt, b"assign.rec", &mut assigns[0..16392]);
     grow_and_keep(
+        rt,
         got_line,
         line,
         got_circuits,
@@ -95,7 +108,7 @@ fn read_and_keep(
 }
 
 // Lends the buffers: behind what is read of a list there is room for 2,048 records.
-fn main() {
+fn main(rt: HostRuntime) {
     let mut line = [0u8; 7];
     let mut circuits = [0u8; 16392];
     let mut new = [0u8; 16392];
@@ -103,6 +116,7 @@ fn main() {
     let mut assigns = [0u8; 32776];
     let mut out = [0u8; 213072];
     read_and_keep(
+        &rt,
         &mut line,
         &mut circuits,
         &mut new,

@@ -1,6 +1,7 @@
 // A line for each case.
 use crate::inputs::Faults;
 use crate::runs::Came;
+use std::io::Print;
 
 // An answer: the refusal's number, or 0, and what comes with it: place and end, or fibres, total and floor.
 #[derive(Clone, Copy)]
@@ -39,23 +40,23 @@ pub fn refused(number: usize, place: usize, end: usize) -> Told {
 }
 
 // Prints a space and a number.
-fn print_field(x: usize) {
-    files::write_output(b" ");
-    files::write_number(x as u64);
+fn print_field<P: Print>(rt: &P, x: usize) {
+    files::write_output(rt, b" ");
+    files::write_number(rt, x as u64);
 }
 
 // Prints an answer.
-fn print_told(t: Told) {
+fn print_told<P: Print>(rt: &P, t: Told) {
     if t.number == 0 {
-        files::write_output(b" planned");
-        print_field(t.first);
-        print_field(t.second);
-        print_field(t.third);
+        files::write_output(rt, b" planned");
+        print_field(rt, t.first);
+        print_field(rt, t.second);
+        print_field(rt, t.third);
     } else {
-        files::write_output(b" refused");
-        print_field(t.number);
-        print_field(t.first);
-        print_field(t.second);
+        files::write_output(rt, b" refused");
+        print_field(rt, t.number);
+        print_field(rt, t.first);
+        print_field(rt, t.second);
     }
 }
 
@@ -99,24 +100,24 @@ fn tallied(t: Tally, agreed: bool) -> Tally {
 }
 
 // Prints what was expected and what came, with how many bytes of each lent area are not as they should be.
-fn compare(t: Tally, expected: Told, came: Came) -> Tally {
-    files::write_output(b": expected");
-    print_told(expected);
-    files::write_output(b", came");
+fn compare<P: Print>(rt: &P, t: Tally, expected: Told, came: Came) -> Tally {
+    files::write_output(rt, b": expected");
+    print_told(rt, expected);
+    files::write_output(rt, b", came");
     let told = came.told;
-    print_told(told);
-    files::write_output(b", bytes astray");
-    print_field(came.fibres);
-    print_field(came.assigns);
-    print_field(came.work);
-    files::write_output(b"\n");
+    print_told(rt, told);
+    files::write_output(rt, b", bytes astray");
+    print_field(rt, came.fibres);
+    print_field(rt, came.assigns);
+    print_field(rt, came.work);
+    files::write_output(rt, b"\n");
     tallied(t, agrees(expected, came))
 }
 
 // A case with a name.
-pub fn case(t: Tally, name: &[u8], expected: Told, came: Came) -> Tally {
-    files::write_output(name);
-    compare(t, expected, came)
+pub fn case<P: Print>(rt: &P, t: Tally, name: &[u8], expected: Told, came: Came) -> Tally {
+    files::write_output(rt, name);
+    compare(rt, t, expected, came)
 }
 
 // The place that a fault of the faulty files is given.
@@ -135,17 +136,17 @@ fn end(fault: usize) -> usize {
 }
 
 // A case of two faults, of which the first is given.
-pub fn pair(t: Tally, f: Faults, came: Came) -> Tally {
-    files::write_output(b"faults");
-    print_field(f.one);
-    print_field(f.other);
-    compare(t, refused(f.one, place(f.one), end(f.one)), came)
+pub fn pair<P: Print>(rt: &P, t: Tally, f: Faults, came: Came) -> Tally {
+    files::write_output(rt, b"faults");
+    print_field(rt, f.one);
+    print_field(rt, f.other);
+    compare(rt, t, refused(f.one, place(f.one), end(f.one)), came)
 }
 
 // Prints how many cases there were and how many differ.
-pub fn close(t: Tally) {
-    files::write_number(t.cases);
-    files::write_output(b" cases, ");
-    files::write_number(t.differ);
-    files::write_output(b" differ\n");
+pub fn close<P: Print>(rt: &P, t: Tally) {
+    files::write_number(rt, t.cases);
+    files::write_output(rt, b" cases, ");
+    files::write_number(rt, t.differ);
+    files::write_output(rt, b" differ\n");
 }
