@@ -1,5 +1,7 @@
 // Some circuits of a file, planned alone: their records are copied, settled, and each assignment is put into its circuit's own record.
 // Those that have no place yet are noted by their places, and planned so, their fibres behind the old ones.
+#![tactic(auto)]
+
 ghost use Rattle.std.specs.Prelude.{◌≡◌, cond, ◌++◌, ℕ, ◌+◌, ◌*◌, ◌/◌, ◌<◌, ◌≤◌, eqb, drop, get_or, length, take};
 ghost use Rattle.basics.specs.Tools.{count};
 ghost use Rattle.records.specs.Bytes.{cells_of, set_cell};
