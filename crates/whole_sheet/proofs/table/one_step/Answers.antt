@@ -9,8 +9,8 @@ use Rattle.whole_sheet.specs.inner.Choices.{place_of, OneOf}
 use Rattle.method.specs.Sheet.{run_from, run_past}
 use Rattle.method.proofs.Colours.{from_pos, past_le}
 use Rattle.whole_sheet.proofs.table.one_step.Goals as goal
-    -- the run that was found
 
+-- the run that was found
 found-run : (n l past : ℕ) (row : List ℕ) → l ≡ run_from n row → past ≡ run_past n row → l ≤ n → AtRun n row (record { from = l; past = past })
 found-run n l past row a b h = record { starts = a; ends = b; there = h }
 
