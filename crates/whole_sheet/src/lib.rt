@@ -1,4 +1,6 @@
 // The whole-sheet engine: it keeps every row of the sheet in a lent area. It is there to be read, so each step is done as the scope of work says it.
+#![tactic(auto)]
+
 mod admit;
 mod choice;
 mod colours;
