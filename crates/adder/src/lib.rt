@@ -1,4 +1,6 @@
 // Circuits added to a plan, none moved: the tests, the places on the old fibres, and new fibres for those that fit nowhere.
+#![tactic(auto)]
+
 ghost use Rattle.register.specs.Areas.{areas};
 ghost use Rattle.adder.specs.Outcome.{Outcome};
 

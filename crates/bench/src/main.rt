@@ -1,4 +1,6 @@
 // Runs the planner on its limits and refusals and prints what was expected and what came.
+#![tactic(auto)]
+
 mod inputs;
 mod report;
 mod runs;

@@ -1,4 +1,6 @@
 // A damaged register mended: the tests, who is kept, places for the rest, and the report.
+#![tactic(auto)]
+
 mod admit;
 mod lines;
 mod refill;

@@ -10,34 +10,16 @@ use Rattle.records.specs.declared.Circuit.{Circuit}
 use Rattle.records.specs.declared.AssignmentRecord.{AssignmentRecord}
 use Rattle.mender.specs.Report.{line_bytes}
 use Rattle.mender.specs.inner.Lines.{begun_with, put_line}
-use Rattle.mender.proofs.lines.begin_line.Statement.{statement}
-use Rattle.mender.proofs.lines.begin_line.Tie as tie
+use Rattle.mender.proofs.lines.begin_line.Goals as goal
 
-returns : tie.Need-returns
+pub returns : goal.returns
 unfolding put_line
 returns c =
-    let start = c.before.before.before.before.before.before.before.before.before in
-    let write-line = c.before.before.write-line in
-    let circuit-at = c.before.before.before.before.before.circuit-at in
-    let assignment_at_lem = c.before.before.before.before.assignment_at_lem in
-    let a = start.args in
+    let write-line = c.write_line in
+    let circuit-at = c.circuit_at-c in
+    let assignment_at_lem = c.assignment_at-was in
+    let a = c.args in
     let R = a.report.now in
     let its : Circuit → AssignmentRecord → List ℕ = λ x y. line_bytes (begun_with (record { circuit = x.number; fibre = y.fibre; wavelength = y.wavelength }) a.j) in
     let q = write-line.ensures ∙ ap₂ its circuit-at.ensures assignment_at_lem.ensures in
     λ k. take (12 * a.t) R ++ (q k ++ Post-is (12 * a.t) (12 * a.t + 12) R (omega arith) k)
-
-pub begin-line-spec : {M : Type 1} → statement M
-begin-line-spec =
-    tie.close
-    (tie.spec
-    (λ c κs. search rules)
-    (λ c κs. search rules)
-    (λ c. search rules)
-    (λ c. search rules)
-    (λ c. search rules)
-    (λ c. search rules)
-    (λ c. search rules)
-    (λ c. search rules)
-    (λ c κs. search rules)
-    (λ c. search rules)
-    returns)

@@ -1,0 +1,20 @@
+-- `fill_lines` meets its contract: line by line. Assumes nothing.
+use borrow.Author.Rules.{rules}
+use Prim.Native.Nat.{ℕ, ◌+◌, ◌-◌, ◌*◌, ◌<◌, ◌≤◌}
+use mathlib.Core.Path.{◌≡◌, refl, ap₂, ◌∙◌}
+use mathlib.Core.List.{List, ◌++◌, map}
+use native.Mathlib.Omega.{arith}
+use lib.ListN.{drop_of_length-le, length, get_or}
+use lib.Seq.{take_all}
+use Rattle.mender.specs.Report.{report_bytes}
+use Rattle.mender.specs.inner.Lines.{begun_line, filled_line}
+use Rattle.mender.proofs.Lining.{Filling, filling_place, filling_room, filling_more}
+use Rattle.mender.proofs.lines.fill_lines.Given as goal
+
+abbrev pub invariant-loop-t : goal.invariant-loop-t
+invariant-loop-t l = (l.t ≤ l.k) × (length l.report ≡ length l.initial.report)
+    × ((s before js rest : List ℕ) → length js ≡ l.k → ((r : ℕ) → r < l.k → 8 * get_or js r 0 + 8 ≤ length l.assigns)
+    → l.initial.report ≡ report_bytes (map (begun_line s before) js) ++ rest → Filling s before l.assigns js rest l.t l.report)
+
+abbrev pub decreases-loop-t : goal.decreases-loop-t
+decreases-loop-t l = l.k - l.t
