@@ -17,6 +17,7 @@ write_halves-requires-clause-halvable c =
     let p = c.pair_lasts-pairs.ensures in
     (lies c.requires, (few_there c.requires p, one_end c.requires p))
 
+-- what the assignments are read from
 pub write_assignments-requires-clause-sources : goal.write_assignments-requires-clause-sources
 write_assignments-requires-clause-sources c = sources c.requires c.pair_lasts-pairs.ensures c.pair_lasts-pairs.auto.work c.write_halves.ensures.0 c.write_halves.ensures.2 (omega arith) c.pair_lasts-pairs.auto.lasts
 
@@ -45,6 +46,7 @@ trim-t-requires c =
       number_room = rd.number_room;
       fibres_few = omega arith;
       plan = _;
+      -- the method's plan is held
       held = all_held _ src c.write_assignments.ensures;
     }
 

@@ -20,6 +20,7 @@ module _ {n w m count : ℕ} {s work table : List ℕ} (src : Sources n w m coun
   few : 2 * pair + 1 + v % 2 ≤ 4096
   few = let q = placed in let a = src.accepted in omega arith
 
+-- the circuit's cell is read: `c.index-v.ensures.0 ∙ c.cell_at.ensures`
 pub overflow_sub-q : goal.overflow_sub-q
 overflow_sub-q c = row_pos c.requires.0 c.requires.1 (c.index-v.ensures.0 ∙ c.cell_at.ensures)
 

@@ -12,6 +12,7 @@ pub returns : goal.returns
 unfolding put_assignment assignment_record
 returns c =
     let a = c.args in
+    -- the number of circuit j
     let number : c.circuit_at-c.result.number ≡ (circuit (circuits_in a.job.circuits a.circuits.now) a.j).number =
     ap (λ x. x.number) (c.circuit_at-c.ensures ∙ sym (circuit_in_lem a.job.circuits a.circuits.now a.j c.requires.sources.1)) in
     c.put_assignment.ensures

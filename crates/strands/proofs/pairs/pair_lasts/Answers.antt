@@ -6,6 +6,7 @@ use Rattle.strands.proofs.pairs.pair_lasts.Goals as goal
 pub loop-h-init : goal.loop-h-init
 loop-h-init c = layering_start c.requires.has_parts
 
+-- the pairs so far are no more than all
 pub overflow_cast-pairs : goal.overflow_cast-pairs
 overflow_cast-pairs c = omega (arith, layering_few c.requires.has_parts c.loop-h.invariant)
 
