@@ -30,7 +30,7 @@ use Rattle.checker.proofs.Planned.{planned_yes, records_sound, records_yes}
 use Rattle.checker.proofs.Planned as Checker
 use Rattle.adder.specs.Table.{add_table}
 use Rattle.adder.specs.Outcome.{Outcome, grown_plan, old_plan}
-use Rattle.adder.specs.Seen.{Seen2, held}
+use Rattle.adder.specs.Seen.{Seen2}
 use Rattle.adder.specs.Additions.{After, Begins, Files, added, files_left, named_in, plan_of_files, planned}
 use Rattle.adder.specs.declared.Named.{Named}
 use Rattle.adder.proofs.Reading.{same_start}

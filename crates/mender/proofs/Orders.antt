@@ -38,7 +38,7 @@ use Rattle.mender.specs.declared.Answer.{Answer}
 use Rattle.mender.specs.declared.Answer.TheVariants.{Mended}
 use Rattle.mender.proofs.Leaves.{due, fibre_room, fit, mend_passes, mendable, of_circuits, one_each, report_room, work_room}
 use Rattle.mender.proofs.Reading.{records_are}
-use Rattle.mender.proofs.Answers.{added, added-room, all_fibres, assignment_at_lem, counts-are, lines_are, long, made_so, numbers, passed-mended, passed_so, report-is, report-long}
+use Rattle.mender.proofs.Answers.{added, added-room, all_fibres, assignment_at_lem, counts-are, lines_are, made_so, numbers, passed-mended, passed_so, report-is, report-long}
 
 -- WHAT A CALL LEAVES AT THE START OF ITS FIBRE LIST AND OF ITS REPORT
 module _ (line : Line) (s : List ℕ) (many : ℕ) (before after : Lent) (answer : Answer) (o : Outcome line s many before after answer)

@@ -4,7 +4,7 @@
 -- `proofs/Again.antt` shows `sound_stays`, that a `SoundCall` is answered with an empty report and leaves the two lists and the report as they are, and `again`,
 -- that a `SecondCall` does too: mending twice is mending once.
 -- Assumes nothing.
-use Rattle.std.specs.Prelude.{ℕ, ◌+◌, ◌*◌, ◌/◌, ◌<◌, ◌≤◌, ◌≡◌, List, length, take}
+use Rattle.std.specs.Prelude.{ℕ, ◌*◌, ◌/◌, ◌<◌, ◌≤◌, ◌≡◌, List, length, take}
 use Rattle.records.specs.Records.{circuits_of, number_in, record_at}
 use Rattle.records.specs.declared.Line.{Line}
 use Rattle.method.specs.Demands.{Rearranged}

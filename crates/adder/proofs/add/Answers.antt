@@ -1,5 +1,4 @@
 -- `add`: what the tests refuse changes nothing, and what they accept is grown. Assumes nothing.
-use borrow.Author.Rules.{rules}
 use Rattle.adder.proofs.Judging.{admitted, grown, refused}
 use Rattle.adder.proofs.add.Goals as goal
 

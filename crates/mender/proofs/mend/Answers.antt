@@ -1,5 +1,4 @@
 -- `mend`: what the tests refuse changes nothing, and what they accept is mended. Assumes nothing.
-use borrow.Author.Rules.{rules}
 use Rattle.mender.proofs.Judging.{refused, admitted, mended}
 use Rattle.mender.proofs.mend.Goals as goal
 

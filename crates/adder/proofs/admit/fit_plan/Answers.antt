@@ -1,5 +1,4 @@
 -- `fit_plan` meets its contract: it compares with 2,048, and asks for the first broken rule. Assumes nothing.
-use borrow.Author.Rules.{rules}
 use Rattle.adder.proofs.Accepting.{many_refused, broken_refused, sound_passed}
 use Rattle.adder.proofs.admit.fit_plan.Goals as goal
 

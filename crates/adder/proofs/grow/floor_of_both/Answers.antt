@@ -1,5 +1,4 @@
 -- `floor_of_both` meets its contract: the floor of the joined file. Assumes nothing.
-use borrow.Author.Rules.{rules}
 use mathlib.Core.List.{◌++◌}
 use Rattle.adder.proofs.GrowingBoth.{joined_accepted, joined_floor, joined_room}
 use Rattle.adder.proofs.grow.floor_of_both.Goals as goal

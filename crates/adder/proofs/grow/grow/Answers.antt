@@ -1,5 +1,4 @@
 -- `grow` meets its contract: what its steps leave is the addition. Assumes nothing.
-use borrow.Author.Rules.{rules}
 use Prim.Native.Nat.{◌*◌, ◌+◌, ◌-◌, ◌/◌, ◌≤◌}
 use lib.ListN.{length}
 use mathlib.Core.Path.{◌∙◌, refl}

@@ -1,5 +1,5 @@
 -- `fill`: the buffer keeps its length. Assumes nothing.
-use Rattle.std.proofs.Common.{◌≡◌, ◌-◌, length, rules}
+use Rattle.std.proofs.Common.{◌≡◌, ◌-◌, length}
 use Rattle.bench.proofs.inputs.fill.Given as goal
 
 abbrev pub invariant-loop-k : goal.invariant-loop-k

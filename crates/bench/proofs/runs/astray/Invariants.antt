@@ -1,5 +1,5 @@
 -- `astray`: no more bytes were counted than passed. Assumes nothing.
-use Rattle.std.proofs.Common.{◌-◌, ◌≤◌, length, rules}
+use Rattle.std.proofs.Common.{◌-◌, ◌≤◌, length}
 use Rattle.bench.proofs.runs.astray.Given as goal
 
 abbrev pub invariant-loop-i : goal.invariant-loop-i

@@ -1,5 +1,4 @@
 -- `fit_fibres` meets its contract: it compares with 2,048, and asks for the first faulty fibre. Assumes nothing.
-use borrow.Author.Rules.{rules}
 use Rattle.mender.proofs.Judging.{many_refused, faulty_refused, fit_passed}
 use Rattle.mender.proofs.admit.fit_fibres.Goals as goal
 

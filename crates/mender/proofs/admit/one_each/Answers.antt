@@ -1,5 +1,4 @@
 -- `one_each` meets its contract. Assumes nothing.
-use borrow.Author.Rules.{rules}
 use Rattle.mender.proofs.Judging.{other_refused, each_passed}
 use Rattle.mender.proofs.admit.one_each.Goals as goal
 

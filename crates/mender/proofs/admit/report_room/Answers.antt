@@ -1,5 +1,4 @@
 -- `report_room` meets its contract. Assumes nothing.
-use borrow.Author.Rules.{rules}
 use Rattle.mender.proofs.Judging.{short_refused, room_passed}
 use Rattle.mender.proofs.admit.report_room.Goals as goal
 

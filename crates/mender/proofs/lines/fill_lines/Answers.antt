@@ -1,14 +1,13 @@
 -- `fill_lines` meets its contract: line by line. Assumes nothing.
-use borrow.Author.Rules.{rules}
-use Prim.Native.Nat.{ℕ, ◌+◌, ◌-◌, ◌*◌, ◌<◌, ◌≤◌}
-use mathlib.Core.Path.{◌≡◌, refl, ap₂, ◌∙◌}
+use Prim.Native.Nat.{ℕ, ◌<◌, ◌≤◌}
+use mathlib.Core.Path.{refl, ap₂, ◌∙◌}
 use mathlib.Core.List.{List, ◌++◌, map}
 use native.Mathlib.Omega.{arith}
-use lib.ListN.{drop_of_length-le, length, get_or}
+use lib.ListN.{drop_of_length-le, length}
 use lib.Seq.{take_all}
 use Rattle.mender.specs.Report.{report_bytes}
 use Rattle.mender.specs.inner.Lines.{begun_line, filled_line}
-use Rattle.mender.proofs.Lining.{Filling, filling_place, filling_room, filling_more}
+use Rattle.mender.proofs.Lining.{filling_place, filling_room, filling_more}
 use Rattle.mender.proofs.lines.fill_lines.Goals as goal
 
 pub loop-t-init : goal.loop-t-init

@@ -1,5 +1,4 @@
 -- `write_line` meets its contract: its three stores fill the 12 bytes. Assumes nothing.
-use borrow.Author.Rules.{rules}
 use Rattle.mender.proofs.Lining.{line_written}
 use Rattle.mender.proofs.lines.write_line.Goals as goal
 

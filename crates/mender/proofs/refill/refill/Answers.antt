@@ -1,5 +1,4 @@
 -- `refill` meets its contract: the first pass, then places for those that are not kept. Assumes nothing.
-use borrow.Author.Rules.{rules}
 use Prim.Native.Nat.{ℕ, ◌*◌}
 use mathlib.Core.Path.{◌≡◌, refl, ap, ◌∙◌, sym, subst}
 use mathlib.Core.List.{List, []}

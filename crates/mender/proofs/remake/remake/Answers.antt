@@ -1,5 +1,4 @@
 -- `remake` meets its contract: what its steps leave is the mending. Assumes nothing.
-use borrow.Author.Rules.{rules}
 use Prim.Native.Nat.{◌+◌, ◌-◌, ◌*◌, ◌/◌, ◌≤◌}
 use mathlib.Core.Path.{refl, ◌∙◌}
 use mathlib.Core.List.{map}

@@ -1,8 +1,6 @@
 -- `keep_if` meets its contract: a record that breaks no rule stays exactly if its wavelength is free. Assumes nothing.
-use borrow.Author.Rules.{rules}
 use mathlib.Core.Path.{◌≡◌, refl, ap, ◌∙◌, sym}
 use native.Mathlib.Omega.{arith}
-use borrow.Author.Tests.{not-true, not-false}
 use Rattle.records.specs.Records.{circuits_in, assignment_of, record_at}
 use Rattle.records.specs.declared.AssignmentRecord.{AssignmentRecord}
 use Rattle.places.specs.Places.{riders, free}
@@ -25,7 +23,7 @@ is_free-requires c =
     let rule-at = c.rule_at in
     let if1 = c.if-rule_at-ne0 in
     let index = c.index-q in
-    let assignment_at_lem = c.assignment_at_lem in
+    let assignment_at_lem = c.assignment_at-a in
     let index2 = c.index-v in
     let a = c.args in
     let A = a.assigns.now in
@@ -44,7 +42,7 @@ returns-then-not-is_free c =
     let rule-at = c.rule_at in
     let if1 = c.if-rule_at-ne0 in
     let index = c.index-q in
-    let assignment_at_lem = c.assignment_at_lem in
+    let assignment_at_lem = c.assignment_at-a in
     let index2 = c.index-v in
     let is_free = c.is_free in
     let circuit-at = c.circuit_at-c in
@@ -85,7 +83,7 @@ returns c =
     let rule-at = c.rule_at in
     let if1 = c.if-rule_at-ne0 in
     let index = c.index-q in
-    let assignment_at_lem = c.assignment_at_lem in
+    let assignment_at_lem = c.assignment_at-a in
     let index2 = c.index-v in
     let is_free = c.is_free in
     let circuit-at = c.circuit_at-c in

@@ -1,13 +1,12 @@
 -- `keep_in_turn` meets its contract: circuit by circuit, by rising number. Assumes nothing.
-use borrow.Author.Rules.{rules}
-use Prim.Native.Nat.{ℕ, ◌-◌, ◌≤◌}
+use Prim.Native.Nat.{ℕ}
 use mathlib.Core.Path.{◌≡◌, refl, ap, ◌∙◌}
 use native.Mathlib.Omega.{arith}
 use lib.ListN.{length, get_or, length-replicate}
 use Rattle.records.specs.Bytes.{cells_of}
 use Rattle.records.proofs.CellLaws.{length_cells_of}
 use Rattle.parts.proofs.Copying.{place_read}
-use Rattle.mender.proofs.Sifting.{Keeping, keeping_start, keeping_more, keeping_end, turns_by_number}
+use Rattle.mender.proofs.Sifting.{keeping_start, keeping_more, keeping_end, turns_by_number}
 use Rattle.mender.proofs.sift.keep_in_turn.Goals as goal
 
 pub loop-t-init : goal.loop-t-init
@@ -43,13 +42,13 @@ keep_if-requires c =
     let g = l.invariant.5 in record {
       by_index = p.by_index;
       j_lt_m = (
-          omega arith,
-          l.invariant.1 ∙ k,
-          omega arith,
-          l.invariant.3 ∙ q,
-          l.invariant.4 ∙ p.order_len.5,
-          ap (λ (x : ℕ). get_or l.auto x 0) r ∙ g.waiting l.t (omega arith) (omega arith),
-        );
+        omega arith,
+        l.invariant.1 ∙ k,
+        omega arith,
+        l.invariant.3 ∙ q,
+        l.invariant.4 ∙ p.order_len.5,
+        ap (λ (x : ℕ). get_or l.kept x 0) r ∙ g.waiting l.t (omega arith) (omega arith),
+      );
       staying = g.staying;
     }
 
@@ -70,13 +69,13 @@ loop-t-preserved c =
     let r = place_read places a.m l.t get.result index.result p.order_len.0 lt get.ensures index.ensures.0 in
     let th = o.there.places l.t lt in
     let k : length a.kept.now ≡ 2048 = ap length p.order_len.2 ∙ length-replicate {A = ℕ} 2048 0 in
-    let y = keep-if.auto.1.1.1.1.1.1.1 in (
+    let y = keep-if.auto in (
       omega arith,
-      y.0 ∙ l.invariant.1,
-      y.1.0 ∙ l.invariant.2,
-      y.1.1.0 ∙ l.invariant.3,
-      y.1.1.1.0 ∙ l.invariant.4,
-      keeping_more a.w a.m a.many a.circuits.now a.fibres.now a.assigns.now (cells_of places) l.t index.result l.auto _ l.ends l.heads l.next _ _ _
+      y.kept ∙ l.invariant.1,
+      y.ends ∙ l.invariant.2,
+      y.heads ∙ l.invariant.3,
+      y.next ∙ l.invariant.4,
+      keeping_more a.w a.m a.many a.circuits.now a.fibres.now a.assigns.now (cells_of places) l.t index.result l.kept _ l.ends l.heads l.next _ _ _
           (omega arith) r (omega arith) (omega arith)
           (λ x z b d e. o.there.once x z (omega arith) (omega arith) e) keep-if.ensures.0 keep-if.ensures.1 l.invariant.5,
     )
@@ -94,7 +93,7 @@ returns c =
     let reg = p.by_index.1 in
     let n = length_cells_of places a.m p.order_len.0 in
     let i = l.invariant.0 in (
-      keeping_end a.w a.m a.many s F A (cells_of places) l.t l.auto l.ends l.heads l.next (omega (arith, loop-test.false))
+      keeping_end a.w a.m a.many s F A (cells_of places) l.t l.kept l.ends l.heads l.next (omega (arith, loop-test.false))
           (turns_by_number p.by_index.0 a.w a.m a.many s F A (cells_of places) reg n p.order_len.1) l.invariant.5,
       l.invariant.5.staying,
     )

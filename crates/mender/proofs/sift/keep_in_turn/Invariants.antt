@@ -1,13 +1,9 @@
 -- `keep_in_turn` meets its contract: circuit by circuit, by rising number. Assumes nothing.
-use borrow.Author.Rules.{rules}
-use Prim.Native.Nat.{ℕ, ◌-◌, ◌≤◌}
-use mathlib.Core.Path.{◌≡◌, refl, ap, ◌∙◌}
-use native.Mathlib.Omega.{arith}
-use lib.ListN.{length, get_or, length-replicate}
+use Prim.Native.Nat.{◌-◌, ◌≤◌}
+use mathlib.Core.Path.{◌≡◌}
+use lib.ListN.{length}
 use Rattle.records.specs.Bytes.{cells_of}
-use Rattle.records.proofs.CellLaws.{length_cells_of}
-use Rattle.parts.proofs.Copying.{place_read}
-use Rattle.mender.proofs.Sifting.{Keeping, keeping_start, keeping_more, keeping_end, turns_by_number}
+use Rattle.mender.proofs.Sifting.{Keeping}
 use Rattle.mender.proofs.sift.keep_in_turn.Given as goal
 
 abbrev pub invariant-loop-t : goal.invariant-loop-t

@@ -1,6 +1,5 @@
 -- `note_all` meets its contract: place by place. Assumes nothing.
-use borrow.Author.Rules.{rules}
-use Prim.Native.Nat.{ℕ, ◌-◌, ◌*◌, ◌≤◌}
+use Prim.Native.Nat.{ℕ, ◌*◌}
 use mathlib.Core.Path.{◌≡◌, refl, ap, ◌∙◌}
 use mathlib.Core.List.{List, ◌++◌, map}
 use native.Mathlib.Omega.{arith}
@@ -12,7 +11,7 @@ use Rattle.parts.proofs.Copying.{place_read}
 use Rattle.mender.specs.Report.{report_bytes}
 use Rattle.mender.specs.inner.Lines.{begun_line, passing}
 use Rattle.mender.specs.inner.Steps.{waits}
-use Rattle.mender.proofs.Lining.{Noting, noting_none, noting_more}
+use Rattle.mender.proofs.Lining.{noting_none, noting_more}
 use Rattle.mender.proofs.sift.note_all.Goals as goal
 
 pub loop-t-init : goal.loop-t-init

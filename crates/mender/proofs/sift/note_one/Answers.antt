@@ -1,5 +1,4 @@
 -- `note_one` meets its contract. Assumes nothing.
-use borrow.Author.Rules.{rules}
 use mathlib.Core.Path.{refl}
 use borrow.Author.Tests.{eq-eqb, ne_eqb}
 use Rattle.mender.proofs.sift.note_one.Goals as goal

@@ -1,5 +1,4 @@
 -- `sift` meets its contract: the order, who is kept, and who is noted. Assumes nothing.
-use borrow.Author.Rules.{rules}
 use Prim.Native.Nat.{ℕ, ◌*◌, ◌<◌}
 use mathlib.Core.Path.{refl, ap, ◌∙◌, sym, subst}
 use native.Mathlib.Omega.{arith}
