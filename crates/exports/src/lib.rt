@@ -1,4 +1,6 @@
 // The planner, additions, mending and the check for callers in C and Rust: the answer's enum as a plain struct of numbers.
+#![tactic(auto)]
+
 pub mod add;
 pub mod check;
 pub mod mend;

@@ -1,4 +1,6 @@
 // What the programs print, from what they read.
+#![tactic(auto)]
+
 ghost use Rattle.std.specs.Prelude.{◌≤◌, length};
 ghost use Rattle.text.specs.Wrote.{Wrote};
 ghost use Rattle.prints.specs.Reads.{file_read, SheetRead};
