@@ -1,5 +1,7 @@
 // Adds the new circuits of the folder where it runs to the plan there, keeps the grown plan, and prints its sheet. It reads, calls and writes; which files are kept is
 // `grown` of crate `prints`, and what is printed is `add_printed`.
+#![tactic(auto)]
+
 ghost use Rattle.std.specs.Prelude.{◌≡◌, ◌≤◌, length};
 ghost use Rattle.prints.specs.Adding.{AddRead};
 

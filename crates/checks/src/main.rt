@@ -1,4 +1,6 @@
 // The check program: the records of a line and its plan in the folder where it runs, to one line. It reads, calls and writes; what is printed is `check_printed` of crate `prints`.
+#![tactic(auto)]
+
 ghost use Rattle.std.specs.Prelude.{◌≡◌, ◌≤◌, length};
 
 use std::io::Print;

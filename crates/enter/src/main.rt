@@ -1,5 +1,7 @@
 // Turns a text of circuits on standard input into the records of a line, in the folder where it runs. It reads, calls and writes; what the files hold and what is
 // said of the text is `MadeRead` of crate `prints`.
+#![tactic(auto)]
+
 ghost use Rattle.std.specs.Prelude.{◌≡◌, ◌≤◌, length};
 
 use entry_text::Made;

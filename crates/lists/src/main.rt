@@ -1,5 +1,7 @@
 // Plans the records of a line in the folder where it runs, keeps both lists of the plan there, and prints the sheet. It reads, calls and writes; which lists are kept
 // is `kept` of crate `prints`, and what is printed is `printed`.
+#![tactic(auto)]
+
 ghost use Rattle.std.specs.Prelude.{◌≡◌, ◌≤◌, length};
 
 use files::pair::Replacement;

@@ -1,4 +1,6 @@
 // The sheet program: the records of a line in the folder where it runs, to text. It reads, calls and writes; what is printed is `printed` of crate `prints`.
+#![tactic(auto)]
+
 ghost use Rattle.std.specs.Prelude.{◌≡◌, ◌≤◌, length};
 
 use std::io::Print;

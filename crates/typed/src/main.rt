@@ -1,4 +1,6 @@
 // Prints the sheet of a text of circuits, as a person types it on standard input. It reads, calls and writes; what is printed is `typed` of crate `prints`.
+#![tactic(auto)]
+
 ghost use Rattle.std.specs.Prelude.{◌≡◌, ◌≤◌, length};
 
 use std::io::{Input, Print};
