@@ -5,7 +5,8 @@ use inputs::{encode, Circuit};
 use programs::house::{printed, told, House};
 use programs::texts::LISTING;
 use programs::{
-    as_nobody, assert_same, repository, run_command, sheet_of, start, text_of, UNREAD_INPUT,
+    as_nobody, assert_same, program, repository, run_command, sheet_of, start, text_of,
+    UNREAD_INPUT,
 };
 use std::fs;
 use std::io::Read;
@@ -351,6 +352,11 @@ fn what_is_missing_is_built() {
 fn what_is_out_of_date_is_built_once() {
     let house = house();
     let sheet = house.listing("records");
+    // What an earlier build made.
+    house.folder.put_folder("crates/sheet/out");
+    house
+        .folder
+        .put_copy("crates/sheet/out/sheet", &program("sheet"));
     for source in [
         "crates.txt",
         "crates/sheet/src/main.rt",
