@@ -51,7 +51,8 @@ def read(path):
 def names():
     found = collections.defaultdict(set)
     for path in files(".antt"):
-        if os.path.basename(path) in OWN_PROOF:
+        # A function's own proof stands in a folder of its name; a file beside those folders holds lemmas, whatever it is called.
+        if os.path.basename(path) in OWN_PROOF and not re.fullmatch(r"crates/\w+/proofs/\w+\.antt", path):
             continue
         for line in read(path).splitlines():
             if line.lstrip().startswith(("--", "let ", "(", "→")):
@@ -194,7 +195,7 @@ def main(argv):
         return 1
     if "--check" in argv:
         return 0
-    pages = ["README.md"] + [os.path.join(f, n) for f, _, ns in os.walk("docs") for n in sorted(ns) if n.endswith(".md")]
+    pages = ["README.md"] + [os.path.join(f, n) for f, _, ns in os.walk("docs") for n in sorted(ns) if n.endswith(".md") and n != "PORT.md"]
     todo = [(p, turn_antt) for p in files(".antt")] + [(p, turn_rt) for p in files(".rt")] + [(p, turn_edit) for p in files(".edit")] + [(p, turn_page) for p in pages]
     many = 0
     for path, turn in todo:

@@ -35,8 +35,8 @@ module _ (t : Verdict) (numbers : Counts) (answer : Answer) (before made after :
     (listed : after.fibres ≡ if_accepted t made.fibres before.fibres) (assigned : after.assigns ≡ if_accepted t made.assigns before.assigns)
     (cleared : after.work ≡ if_accepted t made.work before.work) where
   -- a refusal is the verdict's, and changes nothing
-  refused-by : (r : Refusal) → refusal_of answer ≡ some r → (t ≡ refused_with r) × (after ≡ before)
-  refused-by r e = go t answered listed assigned cleared
+  refused_by : (r : Refusal) → refusal_of answer ≡ some r → (t ≡ refused_with r) × (after ≡ before)
+  refused_by r e = go t answered listed assigned cleared
     where
       go : (t : Verdict) → answer ≡ answer_by t numbers → after.fibres ≡ if_accepted t made.fibres before.fibres → after.assigns ≡ if_accepted t made.assigns before.assigns
           → after.work ≡ if_accepted t made.work before.work → (t ≡ refused_with r) × (after ≡ before)
@@ -44,8 +44,8 @@ module _ (t : Verdict) (numbers : Counts) (answer : Answer) (before made after :
       go (Failed k p d) a f g h = let z = sym (ap refusal_of a) ∙ e in (cc, λ i. areas (f i) (g i) (h i))
 
   -- where it is planned the verdict accepts, the numbers are those, and the areas are so made
-  planned-by : (counts : Counts) → answer ≡ Planned counts → (m : ℕ) × (t ≡ Checked m) × (counts ≡ numbers) × (after ≡ made)
-  planned-by counts e = go t answered listed assigned cleared
+  planned_by : (counts : Counts) → answer ≡ Planned counts → (m : ℕ) × (t ≡ Checked m) × (counts ≡ numbers) × (after ≡ made)
+  planned_by counts e = go t answered listed assigned cleared
     where
       go : (t : Verdict) → answer ≡ answer_by t numbers → after.fibres ≡ if_accepted t made.fibres before.fibres → after.assigns ≡ if_accepted t made.assigns before.assigns
           → after.work ≡ if_accepted t made.work before.work → (m : ℕ) × (t ≡ Checked m) × (counts ≡ numbers) × (after ≡ made)
@@ -53,9 +53,9 @@ module _ (t : Verdict) (numbers : Counts) (answer : Answer) (before made after :
       go (Failed k p d) a f g h = let z = sym e ∙ a in absurd (let y : ◌≡◌ {A = ℕ} 0 1 = cc in omega arith)
 
 -- no test of the line is about ends: without records there is none, and it is the same test
-line-tells : (line : Line) (m : ℕ) (s : List ℕ) → EachGives (TellsEnd line.links m s) (line_rows line)
+line_tells : (line : Line) (m : ℕ) (s : List ℕ) → EachGives (TellsEnd line.links m s) (line_rows line)
 unfolding circuit_rows file_rows line_rows record_rows
-line-tells line m s =
+line_tells line m s =
     let P : Refusal → Type 0 = TellsEnd line.links m s in
     let t = circuits_tell line [] in
     let here : (r : Refusal) → TellsEnd line.links 0 [] r → P r = λ r e. record { six = λ q. absurd (omega (arith, (e.six q).there)); other = e.other } in
@@ -64,10 +64,10 @@ line-tells line m s =
     (each_more P _ _ (λ r e. here r (t.at 4 r (omega arith) e)) (each_end P)))
 
 -- each refusal of the table tells the end of the joined file's record at its place, or 0
-add-tells : (line : Line) (old new : List ℕ) (named : Named) (lent : Areas)
+add_tells : (line : Line) (old new : List ℕ) (named : Named) (lent : Areas)
     → EachGives (TellsEnd line.links (length old / 8 + length new / 8) (old ++ new)) (add_table line old new named lent)
 unfolding add_table two_file_rows room_rows old_rows
-add-tells line old new named lent =
+add_tells line old new named lent =
     let n = line.links in
     let k = length old / 8 in
     let m = length new / 8 in
@@ -76,7 +76,7 @@ add-tells line old new named lent =
     each_more P _ _ (whole 1 (not (eqb (length old % 8) 0)) (λ z. omega arith))
     (each_more P _ _ (whole 1 (not (eqb (length new % 8) 0)) (λ z. omega arith))
     (each_more P _ _ (whole 2 (ltb 2048 (k + m)) (λ z. omega arith))
-    (each_both P (line_rows line) _ (line-tells line (k + m) (old ++ new))
+    (each_both P (line_rows line) _ (line_tells line (k + m) (old ++ new))
     (each_both P (two_record_rows n k m old new) _ (two_records_tell n k m old new)
     (each_more P _ _ (whole 8 (ltb (length lent.fibres) (8 * (named.fibres + m))) (λ z. omega arith))
     (each_more P _ _ (whole 9 (ltb (length lent.assigns) (8 * (named.assignments + m))) (λ z. omega arith))
@@ -101,13 +101,13 @@ module _ (line : Line) (old new : List ℕ) (named : Named) (before : Areas) whe
   module _ (after : Areas) (answer : Answer) (o : Outcome line old new named before after answer) where
     -- a refusal is the verdict's, and changes nothing
     refused_so : (r : Refusal) → refusal_of answer ≡ some r → (judged line old new named before ≡ refused_with r) × (after ≡ before)
-    refused_so = refused-by _ (grown_numbers line old new named before) answer before made after o.answered o.listed o.assigned o.cleared
+    refused_so = refused_by _ (grown_numbers line old new named before) answer before made after o.answered o.listed o.assigned o.cleared
 
     -- a planned answer has the grown plan's numbers, and the areas are written
     pub planned_so : (counts : Counts) → answer ≡ Planned counts → NoneApplies table × (counts ≡ grown_numbers line old new named before) × (after ≡ made)
     unfolding judged
     planned_so counts e =
-        let p = planned-by _ (grown_numbers line old new named before) answer before made after o.answered o.listed o.assigned o.cleared counts e in
+        let p = planned_by _ (grown_numbers line old new named before) answer before made after o.answered o.listed o.assigned o.cleared counts e in
         ((verdict_passed table all p.0 p.1).1, p.2, p.3)
 
     -- demand 1
@@ -124,7 +124,7 @@ module _ (line : Line) (old new : List ℕ) (named : Named) (before : Areas) whe
           planned_if = λ p.
               planned
               (add_passes line old new named before p.old_whole p.new_whole p.joined p.fit p.fibre_room p.assignment_room p.work_room);
-          end_told = λ r e. (let g = verdict_refused table all r (refused_so r e).0 in (add-tells line old new named before).at g.index r g.below g.here);
+          end_told = λ r e. (let g = verdict_refused table all r (refused_so r e).0 in (add_tells line old new named before).at g.index r g.below g.here);
           unchanged = λ r e. (refused_so r e).1;
           fit_passes = fit_passes line old named before;
           passes_fit = passes_fit line old named before;

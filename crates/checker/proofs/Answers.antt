@@ -29,21 +29,21 @@ use Rattle.checker.proofs.Tabled.{check_tells}
 use Rattle.checker.proofs.Reading.{held_is}
 
 -- an answer says one thing
-yes-not-no : {A : Type 0} {a b : ℕ} {d : Breach} → yes a b ≡ no d → A
-yes-not-no e = absurd (let z : ◌≡◌ {A = ℕ} 0 1 = cc in omega arith)
+yes_not_no : {A : Type 0} {a b : ℕ} {d : Breach} → yes a b ≡ no d → A
+yes_not_no e = absurd (let z : ◌≡◌ {A = ℕ} 0 1 = cc in omega arith)
 
-yes-not-refused : {A : Type 0} {a b : ℕ} {r : Refusal} → yes a b ≡ refused r → A
-yes-not-refused e = absurd (let z : ◌≡◌ {A = ℕ} 0 1 = cc in omega arith)
+yes_not_refused : {A : Type 0} {a b : ℕ} {r : Refusal} → yes a b ≡ refused r → A
+yes_not_refused e = absurd (let z : ◌≡◌ {A = ℕ} 0 1 = cc in omega arith)
 
-no-not-refused : {A : Type 0} {b : Breach} {r : Refusal} → no b ≡ refused r → A
-no-not-refused e = absurd (let z : ◌≡◌ {A = ℕ} 0 1 = cc in omega arith)
+no_not_refused : {A : Type 0} {b : Breach} {r : Refusal} → no b ≡ refused r → A
+no_not_refused e = absurd (let z : ◌≡◌ {A = ℕ} 0 1 = cc in omega arith)
 
 -- what is found is a yes where no rule is broken, or else a no
-found-cases : {A : Type 0} (line : Line) (cs : List Circuit) (fs : List FibreRecord) (gs : List AssignmentRecord)
+found_cases : {A : Type 0} (line : Line) (cs : List Circuit) (fs : List FibreRecord) (gs : List AssignmentRecord)
     → (first_broken line cs fs gs ≡ none → says (found line cs fs gs) ≡ yes (length_in fs) (floor line.links line.wavelengths cs) → A)
     → ((b : Breach) → first_broken line cs fs gs ≡ some b → says (found line cs fs gs) ≡ no b → A) → A
 unfolding found
-found-cases {A} line cs fs gs say deny = go (first_broken line cs fs gs) refl
+found_cases {A} line cs fs gs say deny = go (first_broken line cs fs gs) refl
   where
     go : (o : Option Breach) → first_broken line cs fs gs ≡ o → A
     go none e = say e (ap (λ (o : Option Breach). says (finding_by o (length_in fs) (floor line.links line.wavelengths cs))) e)
@@ -63,14 +63,14 @@ module _ (line : Line) (s fibres assigns : List ℕ) where
   breach = first_broken line (circuits_of s) (fibres_of fibres) (assignments_of assigns)
 
   -- the floor of the circuits
-  abbrev its-floor : ℕ
-  its-floor = floor line.links line.wavelengths (circuits_of s)
+  abbrev its_floor : ℕ
+  its_floor = floor line.links line.wavelengths (circuits_of s)
 
   -- the answer is the table's refusal, or what is found
-  answer-cases : {A : Type 0} → ((r : Refusal) → Given (tests line s fibres assigns) r → says answer ≡ refused r → A)
+  answer_cases : {A : Type 0} → ((r : Refusal) → Given (tests line s fibres assigns) r → says answer ≡ refused r → A)
       → (NoneApplies (tests line s fibres assigns) → answer ≡ finding → A) → A
   unfolding checked judged
-  answer-cases {A} refuse tell = go (judged line s fibres assigns) refl
+  answer_cases {A} refuse tell = go (judged line s fibres assigns) refl
     where
       go : (t : Verdict) → judged line s fibres assigns ≡ t → A
       go (Checked m) e = tell (verdict_passed (tests line s fibres assigns) (length s / 8) m e).1 (ap (λ (t : Verdict). answer_by t finding) e)
@@ -83,53 +83,53 @@ module _ (line : Line) (s fibres assigns : List ℕ) where
   tabled r g = ap (λ (t : Verdict). says (answer_by t finding)) (verdict_given (tests line s fibres assigns) (length s / 8) r g)
 
   -- where no test refuses the answer is what is found
-  pub tests-pass : NoneApplies (tests line s fibres assigns) → answer ≡ finding
+  pub tests_pass : NoneApplies (tests line s fibres assigns) → answer ≡ finding
   unfolding checked judged
-  tests-pass h = ap (λ (t : Verdict). answer_by t finding) (verdict_passes (tests line s fibres assigns) (length s / 8) h)
+  tests_pass h = ap (λ (t : Verdict). answer_by t finding) (verdict_passes (tests line s fibres assigns) (length s / 8) h)
 
   -- the length of the records is that of the plan that the bytes hold
-  plan-held : length_in (fibres_of fibres) ≡ total (held line s fibres assigns).fibres
-  plan-held = ap (λ (p : Plan). total p.fibres) (held_is (length fibres / 8) (length assigns / 8) fibres assigns)
+  plan_held_lem : length_in (fibres_of fibres) ≡ total (held line s fibres assigns).fibres
+  plan_held_lem = ap (λ (p : Plan). total p.fibres) (held_is (length fibres / 8) (length assigns / 8) fibres assigns)
 
   -- no test refuses and no rule is broken: yes, with length and floor
-  pub answers-yes : NoneApplies (tests line s fibres assigns) → breach ≡ none → answer ≡ Yes (total (held line s fibres assigns).fibres) its-floor
+  pub answers_yes : NoneApplies (tests line s fibres assigns) → breach ≡ none → answer ≡ Yes (total (held line s fibres assigns).fibres) its_floor
   unfolding found
-  answers-yes h e =
-      tests-pass h ∙ ap (λ (o : Option Breach). finding_by o (length_in (fibres_of fibres)) its-floor) e
-      ∙ ap (λ (x : ℕ). Yes x its-floor) plan-held
+  answers_yes h e =
+      tests_pass h ∙ ap (λ (o : Option Breach). finding_by o (length_in (fibres_of fibres)) its_floor) e
+      ∙ ap (λ (x : ℕ). Yes x its_floor) plan_held_lem
 
   -- and no, with the first breach
-  answers-no : (b : Breach) → NoneApplies (tests line s fibres assigns) → breach ≡ some b → says answer ≡ no b
+  answers_no : (b : Breach) → NoneApplies (tests line s fibres assigns) → breach ≡ some b → says answer ≡ no b
   unfolding found
-  answers-no b h e = ap says (tests-pass h) ∙ ap (λ (o : Option Breach). says (finding_by o (length_in (fibres_of fibres)) its-floor)) e
+  answers_no b h e = ap says (tests_pass h) ∙ ap (λ (o : Option Breach). says (finding_by o (length_in (fibres_of fibres)) its_floor)) e
 
   -- what a yes says
   said_yes : (long told-floor : ℕ) → says answer ≡ yes long told-floor → SaidYes line s fibres assigns long told-floor
   said_yes long told-floor e =
-      answer-cases
-      (λ r g q. yes-not-refused (sym e ∙ q))
+      answer_cases
+      (λ r g q. yes_not_refused (sym e ∙ q))
       (λ h q.
-      found-cases line (circuits_of s) (fibres_of fibres) (assignments_of assigns)
+      found_cases line (circuits_of s) (fibres_of fibres) (assignments_of assigns)
       (λ none-broken y.
-      let z : yes long told-floor ≡ yes (length_in (fibres_of fibres)) its-floor = sym e ∙ ap says q ∙ y in
+      let z : yes long told-floor ≡ yes (length_in (fibres_of fibres)) its_floor = sym e ∙ ap says q ∙ y in
       let sound = yes_sound line (circuits_of s) (fibres_of fibres) (assignments_of assigns) none-broken in
       record {
         not_refused = h;
         all_kept = sound;
         valid = subst (Valid line.wavelengths (circuits_of s)) (held_is (length fibres / 8) (length assigns / 8) fibres assigns) sound.valid;
-        the_length = (let a : long ≡ length_in (fibres_of fibres) = cc in a) ∙ plan-held;
+        the_length = (let a : long ≡ length_in (fibres_of fibres) = cc in a) ∙ plan_held_lem;
         the_floor = cc;
       })
-      (λ b broken y. yes-not-no (sym e ∙ ap says q ∙ y)))
+      (λ b broken y. yes_not_no (sym e ∙ ap says q ∙ y)))
 
   -- what a no says
-  said-no : (b : Breach) → says answer ≡ no b → SaidNo line s fibres assigns b
-  said-no b e =
-      answer-cases
-      (λ r g q. no-not-refused (sym e ∙ q))
+  said_no : (b : Breach) → says answer ≡ no b → SaidNo line s fibres assigns b
+  said_no b e =
+      answer_cases
+      (λ r g q. no_not_refused (sym e ∙ q))
       (λ h q.
-      found-cases line (circuits_of s) (fibres_of fibres) (assignments_of assigns)
-      (λ none-broken y. yes-not-no (sym y ∙ sym (ap says q) ∙ e))
+      found_cases line (circuits_of s) (fibres_of fibres) (assignments_of assigns)
+      (λ none-broken y. yes_not_no (sym y ∙ sym (ap says q) ∙ e))
       (λ d broken y.
       let z : no d ≡ no b = sym y ∙ sym (ap says q) ∙ e in
       let t : d ≡ b = cc in
@@ -139,27 +139,27 @@ module _ (line : Line) (s fibres assigns : List ℕ) where
       }))
 
   -- a refusal is as tabled
-  said-refused : (r : Refusal) → says answer ≡ refused r → Given (tests line s fibres assigns) r
-  said-refused r e =
-      answer-cases
+  said_refused : (r : Refusal) → says answer ≡ refused r → Given (tests line s fibres assigns) r
+  said_refused r e =
+      answer_cases
       (λ d g q.
       let z : refused d ≡ refused r = sym q ∙ e in
       let t : d ≡ r = cc in
       subst (Given (tests line s fibres assigns)) t g)
       (λ h q.
-      found-cases line (circuits_of s) (fibres_of fibres) (assignments_of assigns)
-      (λ none-broken y. yes-not-refused (sym y ∙ sym (ap says q) ∙ e))
-      (λ b broken y. no-not-refused (sym y ∙ sym (ap says q) ∙ e)))
+      found_cases line (circuits_of s) (fibres_of fibres) (assignments_of assigns)
+      (λ none-broken y. yes_not_refused (sym y ∙ sym (ap says q) ∙ e))
+      (λ b broken y. no_not_refused (sym y ∙ sym (ap says q) ∙ e)))
 
   -- every answer that meets the contract of `check_plan`
   pub seen : (given : Finding) → given ≡ checked line s fibres assigns → Seen line s fibres assigns given
   seen given a =
       record {
-        as_tabled = λ r e. said-refused r (sym (ap says a) ∙ e);
+        as_tabled = λ r e. said_refused r (sym (ap says a) ∙ e);
         whenever_tabled = λ r g. ap says a ∙ tabled r g;
-        end_told = λ r e. (let g = said-refused r (sym (ap says a) ∙ e) in (check_tells line s (length fibres) (length assigns)).at g.index r g.below g.here);
+        end_told = λ r e. (let g = said_refused r (sym (ap says a) ∙ e) in (check_tells line s (length fibres) (length assigns)).at g.index r g.below g.here);
         yes_says = λ long told-floor e. said_yes long told-floor (sym (ap says a) ∙ e);
-        yes_whenever = λ h k. ap says (a ∙ answers-yes h (sound_yes line (circuits_of s) (fibres_of fibres) (assignments_of assigns) k));
-        no_says = λ b e. said-no b (sym (ap says a) ∙ e);
-        no_whenever = λ b h f. ap says a ∙ answers-no b h (first_broken_lem line (circuits_of s) (fibres_of fibres) (assignments_of assigns) b f);
+        yes_whenever = λ h k. ap says (a ∙ answers_yes h (sound_yes line (circuits_of s) (fibres_of fibres) (assignments_of assigns) k));
+        no_says = λ b e. said_no b (sym (ap says a) ∙ e);
+        no_whenever = λ b h f. ap says a ∙ answers_no b h (first_broken_lem line (circuits_of s) (fibres_of fibres) (assignments_of assigns) b f);
       }

@@ -104,8 +104,8 @@ module _ (line : Line) (cs : List Circuit) (fs : List FibreRecord) (gs : List As
   no_found rule place h = found_by_lem (some (record { rule = rule; place = place })) (loud _ t rule place told h)
 
   -- none is
-  pub yes_found : t ≡ Nothing → (long its-floor : ℕ) → long ≡ length_in fs → its-floor ≡ floor line.links line.wavelengths cs → Yes long its-floor ≡ found line cs fs gs
-  yes_found h long its-floor p q = ap₂ Yes p q ∙ found_by_lem none (silent _ t told h)
+  pub yes_found : t ≡ Nothing → (long its_floor : ℕ) → long ≡ length_in fs → its_floor ≡ floor line.links line.wavelengths cs → Yes long its_floor ≡ found line cs fs gs
+  yes_found h long its_floor p q = ap₂ Yes p q ∙ found_by_lem none (silent _ t told h)
 
 -- THE TESTS
 module _ (line : Line) (s fibres assigns : List ℕ) (t : Verdict) (told : t ≡ verdict (check_table line s (length fibres) (length assigns)) (length s / 8)) where

@@ -32,7 +32,7 @@ use Rattle.checker.specs.Sound.{Sound}
 use Rattle.checker.specs.Checked.{assignments_in, assignments_of, checked, fibres_in, fibres_of, finding_by, found, length_in}
 use Rattle.checker.specs.Seen.{written_assignments, written_fibres}
 use Rattle.checker.specs.declared.Finding.TheVariants.{Yes}
-use Rattle.checker.proofs.Answers.{tests-pass}
+use Rattle.checker.proofs.Answers.{tests_pass}
 use Rattle.checker.proofs.Passing.{check_passes}
 use Rattle.checker.proofs.Reading.{assignments_in_at, fibres_in_at, held_is, length_fibres_in}
 use Rattle.checker.proofs.Yes.{sound_yes}
@@ -111,7 +111,7 @@ module _ (line : Line) (s : List ℕ) (k : ℕ) (fibres assigns : List ℕ) wher
       let assigns-in : assignments_of assign_bytes ≡ gs =
       ap (λ (x : ℕ). assignments_in x assign_bytes) (let z : length assign_bytes / 8 ≡ m = omega arith in z)
       ∙ ap (λ (x : ℕ). assignments_in m (take x assigns)) file.whole ∙ taken_assignments m assigns in
-      tests-pass line s fibre_bytes_lem assign_bytes (check_passes line s passed k m (length fibre_bytes_lem) (length assign_bytes) few file.few f g)
+      tests_pass line s fibre_bytes_lem assign_bytes (check_passes line s passed k m (length fibre_bytes_lem) (length assign_bytes) few file.few f g)
       ∙ ap₂ (λ (x : List FibreRecord) (y : List AssignmentRecord). found line cs x y) fibres-in assigns-in
       ∙ ap (λ (b : Option Breach). finding_by b (length_in fs) (floor line.links line.wavelengths cs)) (sound_yes line cs fs gs sound)
       ∙ ap (λ (p : Plan). Yes (total p.fibres) (floor line.links line.wavelengths cs)) (held_is k m fibres assigns)

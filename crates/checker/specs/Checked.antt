@@ -22,13 +22,13 @@ use Rattle.checker.specs.declared.Finding.TheVariants.{Yes, No, Refused}
 
 -- WHAT AN ANSWER SAYS: yes, with the length of the fibres and the floor; no, with the first broken rule and its place; or a refusal
 pub data Saying : Type 0 where
-  yes : (long its-floor : ℕ) → Saying
+  yes : (long its_floor : ℕ) → Saying
   no : Breach → Saying
   refused : Refusal → Saying
 
 -- one definition takes each case of an answer to what it says
 abbrev pub says : Finding → Saying
-says (Yes long its-floor) = yes long its-floor
+says (Yes long its_floor) = yes long its_floor
 says (No rule place) = no (record { rule = rule; place = place })
 says (Refused number place end) = refused (record { number = number; place = place; end = end })
 
@@ -75,8 +75,8 @@ fault_of (some b) = Broken b.rule b.place
 
 -- THE ANSWER. Yes, with length and floor, where no rule is broken, and else no, with the first that is and its place
 abbrev pub finding_by : Option Breach → ℕ → ℕ → Finding
-finding_by none long its-floor = Yes long its-floor
-finding_by (some b) long its-floor = No b.rule b.place
+finding_by none long its_floor = Yes long its_floor
+finding_by (some b) long its_floor = No b.rule b.place
 
 -- the length of a list of fibre records: the sum of the numbers of links spanned
 abbrev pub length_in : List FibreRecord → ℕ

@@ -44,12 +44,12 @@ module _ (line : Line) (s fibres assigns : List ℕ) where
   First = FirstBreach line (circuits_of s) (fibres_of fibres) (assignments_of assigns)
 
   -- what a yes says
-  pub record SaidYes (long its-floor : ℕ) : Type 0 where
+  pub record SaidYes (long its_floor : ℕ) : Type 0 where
     pub not_refused : NoneApplies tests
     pub all_kept : AllKept
     pub valid : Valid line.wavelengths (circuits_of s) held
     pub the_length : long ≡ total held.fibres
-    pub the_floor : its-floor ≡ floor line.links line.wavelengths (circuits_of s)
+    pub the_floor : its_floor ≡ floor line.links line.wavelengths (circuits_of s)
 
   -- what a no says
   pub record SaidNo (b : Breach) : Type 0 where
@@ -61,7 +61,7 @@ module _ (line : Line) (s fibres assigns : List ℕ) where
     pub as_tabled : (r : Refusal) → says answer ≡ refused r → Given tests r
     pub whenever_tabled : (r : Refusal) → Given tests r → says answer ≡ refused r
     pub end_told : (r : Refusal) → says answer ≡ refused r → TellsEnd line.links (length s / 8) s r
-    pub yes_says : (long its-floor : ℕ) → says answer ≡ yes long its-floor → SaidYes long its-floor
+    pub yes_says : (long its_floor : ℕ) → says answer ≡ yes long its_floor → SaidYes long its_floor
     pub yes_whenever : NoneApplies tests → AllKept → says answer ≡ yes (total held.fibres) (floor line.links line.wavelengths (circuits_of s))
     pub no_says : (b : Breach) → says answer ≡ no b → SaidNo b
     pub no_whenever : (b : Breach) → NoneApplies tests → First b → says answer ≡ no b

@@ -42,7 +42,7 @@ use Rattle.mender.specs.declared.Answer.{Answer}
 use Rattle.mender.specs.declared.Answer.TheVariants.{Mended}
 use Rattle.mender.proofs.Leaves.{due, many_fibres, mend_passes}
 use Rattle.mender.proofs.Reading.{by_records}
-use Rattle.mender.proofs.Answers.{bytes-kept, made_so, numbers, passed-mended, passed_so, record-bytes, record_kept, seen_2}
+use Rattle.mender.proofs.Answers.{bytes_kept, made_so, numbers, passed_mended, passed_so, record_bytes, record_kept, seen_2}
 use Rattle.mender.proofs.Yes.{mended_yes}
 
 -- no fibre behind the old ones: the list is as it was
@@ -61,8 +61,8 @@ unfolding reported any
 none_told p s j = refl
 
 -- A CALL ON A REGISTER TO WHICH THE CHECK SAYS YES, each record of which is what the assignment in it is written as
-module _ (line : Line) (s : List ℕ) (many : ℕ) (before : Lent) (few : many ≤ 2048) (room : Room line.links (length s / 8) many before) (told its-floor : ℕ)
-    (yes : checked line s (take (8 * many) before.fibres) before.assigns ≡ Yes told its-floor) where
+module _ (line : Line) (s : List ℕ) (many : ℕ) (before : Lent) (few : many ≤ 2048) (room : Room line.links (length s / 8) many before) (told its_floor : ℕ)
+    (yes : checked line s (take (8 * many) before.fibres) before.assigns ≡ Yes told its_floor) where
   -- how many circuits
   abbrev m : ℕ
   m = length s / 8
@@ -76,8 +76,8 @@ module _ (line : Line) (s : List ℕ) (many : ℕ) (before : Lent) (few : many �
   fibre_bytes_lem = take (8 * many) before.fibres
 
   -- what a yes says
-  said : SaidYes line s fibre_bytes_lem before.assigns told its-floor
-  said = (Checker.seen line s fibre_bytes_lem before.assigns (checked line s fibre_bytes_lem before.assigns) refl).yes_says told its-floor (ap says yes)
+  said : SaidYes line s fibre_bytes_lem before.assigns told its_floor
+  said = (Checker.seen line s fibre_bytes_lem before.assigns (checked line s fibre_bytes_lem before.assigns) refl).yes_says told its_floor (ap says yes)
 
   -- how many fibres are named
   many_named : length fibre_bytes_lem / 8 ≡ many
@@ -173,7 +173,7 @@ module _ (line : Line) (s : List ℕ) (many : ℕ) (before : Lent) (few : many �
       ∙ ap fibres (held_is many 0 before.fibres before.assigns)))
 
   -- the numbers are those of the register
-  numbers_are : numbers line s many before ≡ record { fibres = many; total = told; floor = its-floor }
+  numbers_are : numbers line s many before ≡ record { fibres = many; total = told; floor = its_floor }
   numbers_are =
       let d = due line s many before passed in
       let p = d.fibres_are ∙ ap length same_plan ∙ many_old in
@@ -184,17 +184,17 @@ module _ (line : Line) (s : List ℕ) (many : ℕ) (before : Lent) (few : many �
   module _ (after : Lent) (answer : Answer) (call : Outcome line s many before after answer)
       (written : (j : ℕ) → j < m → assignment_bytes (assignment_of (record_at before.assigns j)) ≡ record_at before.assigns j) where
     -- the answer has them, and no line
-    no_lines : answer ≡ Mended (record { fibres = many; total = told; floor = its-floor }) 0
+    no_lines : answer ≡ Mended (record { fibres = many; total = told; floor = its_floor }) 0
     no_lines =
-        passed-mended line s many before after answer call passed
+        passed_mended line s many before after answer call passed
         ∙ ap₂ Mended numbers_are ((due line s many before passed).lines_are ∙ ap (λ (M : Mend). length M.report) idle)
 
     -- and nothing changes
-    pub left_alone : NothingMended before after (record { fibres = many; total = told; floor = its-floor }) answer
+    pub left_alone : NothingMended before after (record { fibres = many; total = told; floor = its_floor }) answer
     left_alone =
         let made = mended_to line s many before in
-        let so = made_so line s many before after answer call (record { fibres = many; total = told; floor = its-floor }) 0 no_lines in
-        let two = seen_2 line s many before after answer call (record { fibres = many; total = told; floor = its-floor }) 0 no_lines in
+        let so = made_so line s many before after answer call (record { fibres = many; total = told; floor = its_floor }) 0 no_lines in
+        let two = seen_2 line s many before after answer call (record { fibres = many; total = told; floor = its_floor }) 0 no_lines in
         let none-added : drop many made.plan.fibres ≡ [] = ap (drop many) same_plan ∙ drop_of_length-le (old_fibres many before) {i = many} (omega (arith, many_old)) in
         record {
           no_lines = no_lines;
@@ -207,11 +207,11 @@ module _ (line : Line) (s : List ℕ) (many : ℕ) (before : Lent) (few : many �
         }
 
 -- A SOUND REGISTER IS LEFT AS IT IS
-pub sound_stays : (line : Line) (s : List ℕ) (many : ℕ) (before after : Lent) (answer : Answer) (told its-floor : ℕ) → SoundCall line s many before after answer told its-floor
-    → NothingMended before after (record { fibres = many; total = told; floor = its-floor }) answer
-sound_stays line s many before after answer told its-floor c =
-    left_alone line s many before c.few c.room told its-floor c.said_yes after answer c.call
-    (bytes-kept before.assigns (length s / 8) (assigns_long line s many before c.few c.room told its-floor c.said_yes) c.bytes)
+pub sound_stays : (line : Line) (s : List ℕ) (many : ℕ) (before after : Lent) (answer : Answer) (told its_floor : ℕ) → SoundCall line s many before after answer told its_floor
+    → NothingMended before after (record { fibres = many; total = told; floor = its_floor }) answer
+sound_stays line s many before after answer told its_floor c =
+    left_alone line s many before c.few c.room told its_floor c.said_yes after answer c.call
+    (bytes_kept before.assigns (length s / 8) (assigns_long line s many before c.few c.room told its_floor c.said_yes) c.bytes)
 
 -- MENDING TWICE IS MENDING ONCE
 pub again : (line : Line) (s : List ℕ) (many : ℕ) (before after before' after' : Lent) (counts : Counts) (lines : ℕ) (answer' : Answer)
@@ -225,5 +225,5 @@ again line s many before after before' after' counts lines answer' c =
     after' answer' c.two
     (λ j h.
     let e : record_at before'.assigns j ≡ assignment_bytes (record_of records j) =
-    ap (λ (x : List ℕ). record_at x j) c.assigns_left ∙ record-bytes line s many before passed after so j h in
+    ap (λ (x : List ℕ). record_at x j) c.assigns_left ∙ record_bytes line s many before passed after so j h in
     ap (λ (r : List ℕ). assignment_bytes (assignment_of r)) e ∙ ap assignment_bytes (assignment_read_written (record_of records j)) ∙ sym e)

@@ -41,16 +41,16 @@ use Rattle.mender.proofs.Leaves.{due, fibre_room, fit, fit_numbered, fit_passes,
 use Rattle.mender.proofs.Reading.{fibres_read, length_report_bytes, numbered_on, olds_stay, report_read, rest_is}
 
 -- a record of bytes is what the assignment in it is written as
-pub bytes-kept : (area : List ℕ) (m : ℕ) → length area ≡ 8 * m → Bytes area → (j : ℕ) → j < m → assignment_bytes (assignment_of (record_at area j)) ≡ record_at area j
-bytes-kept area m l bytes j h = assignment_written_read (record_at area j) (length_record_at area j (omega arith)) (record_at_bytes area j bytes)
+pub bytes_kept : (area : List ℕ) (m : ℕ) → length area ≡ 8 * m → Bytes area → (j : ℕ) → j < m → assignment_bytes (assignment_of (record_at area j)) ≡ record_at area j
+bytes_kept area m l bytes j h = assignment_written_read (record_at area j) (length_record_at area j (omega arith)) (record_at_bytes area j bytes)
 
 -- AN ANSWER BY A VERDICT t, with lent areas that are changed to `made` only where it accepts
 module _ (t : Verdict) (numbers counts : Counts) (long lines : ℕ) (answer : Answer) (before made after : Lent) (answered : answer ≡ answer_by t numbers long)
     (listed : after.fibres ≡ if_accepted t made.fibres before.fibres) (assigned : after.assigns ≡ if_accepted t made.assigns before.assigns)
     (reported : after.report ≡ if_accepted t made.report before.report) (cleared : after.work ≡ if_accepted t made.work before.work) where
   -- a refusal is the verdict's, and changes nothing
-  refused-by : (r : Refusal) → refusal_of answer ≡ some r → (t ≡ refused_with r) × (after ≡ before)
-  refused-by r e = go t answered listed assigned reported cleared
+  refused_by : (r : Refusal) → refusal_of answer ≡ some r → (t ≡ refused_with r) × (after ≡ before)
+  refused_by r e = go t answered listed assigned reported cleared
     where
       go : (t : Verdict) → answer ≡ answer_by t numbers long → after.fibres ≡ if_accepted t made.fibres before.fibres
           → after.assigns ≡ if_accepted t made.assigns before.assigns
@@ -59,8 +59,8 @@ module _ (t : Verdict) (numbers counts : Counts) (long lines : ℕ) (answer : An
       go (Failed k p q) a f g d h = let z = sym (ap refusal_of a) ∙ e in (cc, λ i. lent_areas (f i) (g i) (d i) (h i))
 
   -- where it is mended the verdict accepts, the numbers are those, and the areas are so made
-  mended-by : answer ≡ Mended counts lines → (m : ℕ) × (t ≡ Checked m) × (counts ≡ numbers) × (lines ≡ long) × (after ≡ made)
-  mended-by e = go t answered listed assigned reported cleared
+  mended_by : answer ≡ Mended counts lines → (m : ℕ) × (t ≡ Checked m) × (counts ≡ numbers) × (lines ≡ long) × (after ≡ made)
+  mended_by e = go t answered listed assigned reported cleared
     where
       go : (t : Verdict) → answer ≡ answer_by t numbers long → after.fibres ≡ if_accepted t made.fibres before.fibres
           → after.assigns ≡ if_accepted t made.assigns before.assigns
@@ -95,8 +95,8 @@ module _ (line : Line) (s : List ℕ) (many : ℕ) (before : Lent) where
   added = drop many made.plan.fibres
 
   -- the areas of a register that is mended
-  abbrev mendedAreas : Lent
-  mendedAreas =
+  abbrev mended_areas : Lent
+  mended_areas =
       lent_areas (behind (8 * many) (fibre_list many added) before.fibres) (assignment_records 0 (circuits_of s) made.plan.assignments) (report_list made.report before.report)
       (zeroed_to (4 * line.links + 4 * m) before.work)
 
@@ -117,19 +117,19 @@ module _ (line : Line) (s : List ℕ) (many : ℕ) (before : Lent) where
   module _ (after : Lent) (answer : Answer) (o : Outcome line s many before after answer) where
     -- a refusal is the verdict's, and changes nothing
     refused_so : (r : Refusal) → refusal_of answer ≡ some r → (judged line s many before ≡ refused_with r) × (after ≡ before)
-    refused_so = refused-by _ numbers numbers long long answer before mendedAreas after o.answered o.listed o.assigned o.reported o.cleared
+    refused_so = refused_by _ numbers numbers long long answer before mended_areas after o.answered o.listed o.assigned o.reported o.cleared
 
     -- a mended answer has the numbers of the mending, and the areas are written
-    pub mended-so : (counts : Counts) (lines : ℕ) → answer ≡ Mended counts lines → NoneApplies table × (counts ≡ numbers) × (lines ≡ long) × (after ≡ mendedAreas)
+    pub mended_so : (counts : Counts) (lines : ℕ) → answer ≡ Mended counts lines → NoneApplies table × (counts ≡ numbers) × (lines ≡ long) × (after ≡ mended_areas)
     unfolding judged
-    mended-so counts lines e =
-        let p = mended-by _ numbers counts long lines answer before mendedAreas after o.answered o.listed o.assigned o.reported o.cleared e in
+    mended_so counts lines e =
+        let p = mended_by _ numbers counts long lines answer before mended_areas after o.answered o.listed o.assigned o.reported o.cleared e in
         ((verdict_passed table m p.0 p.1).1, p.2, p.3, p.4)
 
     -- what passes the tests is mended
-    pub passed-mended : NoneApplies table → answer ≡ Mended numbers long
+    pub passed_mended : NoneApplies table → answer ≡ Mended numbers long
     unfolding judged
-    passed-mended f = o.answered ∙ ap (λ (t : Verdict). answer_by t numbers long) (verdict_passes table m f)
+    passed_mended f = o.answered ∙ ap (λ (t : Verdict). answer_by t numbers long) (verdict_passes table m f)
 
     -- demand 1
     pub seen_1 : Seen1 line s many before after answer
@@ -138,8 +138,8 @@ module _ (line : Line) (s : List ℕ) (many : ℕ) (before : Lent) where
         record {
           as_tabled = λ r e. verdict_refused table m r (refused_so r e).0;
           whenever_tabled = λ r g. ap refusal_of (o.answered ∙ ap (λ (t : Verdict). answer_by t numbers long) (verdict_given table m r g));
-          otherwise_mended = λ f. (numbers, long, passed-mended f);
-          passes_mended = λ p. (numbers, long, passed-mended (passes_none after p));
+          otherwise_mended = λ f. (numbers, long, passed_mended f);
+          passes_mended = λ p. (numbers, long, passed_mended (passes_none after p));
           end_told = λ r e. (let g = verdict_refused table m r (refused_so r e).0 in (mend_tells line s many before).at g.index r g.below g.here);
           fibre_told = λ r e. (let g = verdict_refused table m r (refused_so r e).0 in (mend_tells_fibre line s many before).at g.index r g.below g.here);
           unchanged = λ r e. (refused_so r e).1;
@@ -153,67 +153,67 @@ module _ (line : Line) (s : List ℕ) (many : ℕ) (before : Lent) where
     promised = due line s many before passed
 
     -- how many circuits there are
-    many-circuits : length (circuits_of s) ≡ m
-    many-circuits = length_circuits_in m s
+    many_circuits : length (circuits_of s) ≡ m
+    many_circuits = length_circuits_in m s
 
     -- each has an assignment
-    one-given : length made.plan.assignments ≡ length (circuits_of s)
-    one-given = promised.valid.all_assigned
+    one_given : length made.plan.assignments ≡ length (circuits_of s)
+    one_given = promised.valid.all_assigned
 
     -- how many fibres there were
     many_old : length (old_fibres many before) ≡ many
     many_old = many_fibres many 0 before.fibres before.assigns
 
     -- the fibres are the old ones and those that are added
-    pub old-and-added : made.plan.fibres ≡ old_fibres many before ++ added
-    old-and-added =
+    pub old_and_added : made.plan.fibres ≡ old_fibres many before ++ added
+    old_and_added =
         let new = promised.mended.fibres_after in
         new ∙ ap (λ (fs : List Fibre). old_fibres many before ++ fs) (sym (ap (drop many) new ∙ drop_at (old_fibres many before) _ many many_old))
 
     -- how many there are
     pub fibre_count : numbers.fibres ≡ many + length added
-    fibre_count = promised.fibres_are ∙ ap length old-and-added ∙ omega (arith, length-append (old_fibres many before) added, many_old)
+    fibre_count = promised.fibres_are ∙ ap length old_and_added ∙ omega (arith, length-append (old_fibres many before) added, many_old)
 
     -- at most one line for each circuit
-    pub lines-few : long ≤ m
-    lines-few =
-        omega (arith, promised.lines_are, promised.one_line_each, count_below (reported (circuits_of s) made) (length (circuits_of s)), many-circuits)
+    pub lines_few : long ≤ m
+    lines_few =
+        omega (arith, promised.lines_are, promised.one_line_each, count_below (reported (circuits_of s) made) (length (circuits_of s)), many_circuits)
 
     -- and at most one new fibre for each line
-    added-few : length added ≤ long
-    added-few = omega (arith, promised.few_fibres, promised.lines_are, promised.fibres_are, fibre_count, many_old)
+    added_few : length added ≤ long
+    added_few = omega (arith, promised.few_fibres, promised.lines_are, promised.fibres_are, fibre_count, many_old)
 
     -- there is room for them
-    pub added-room : 8 * (many + length added) ≤ length before.fibres
-    added-room = omega (arith, fibre_room line s many before passed, added-few, lines-few)
+    pub added_room : 8 * (many + length added) ≤ length before.fibres
+    added_room = omega (arith, fibre_room line s many before passed, added_few, lines_few)
 
     -- assignment record j of a list that is so made
-    pub assignment_at_lem : (after : Lent) → after ≡ mendedAreas → (j : ℕ) → j < m
+    pub assignment_at_lem : (after : Lent) → after ≡ mended_areas → (j : ℕ) → j < m
         → record_at after.assigns j ≡ assignment_record 0 (get_or (circuits_of s) j nobody) (get_or made.plan.assignments j unassigned)
     assignment_at_lem after so j h =
         ap (λ (x : Lent). record_at x.assigns j) so
         ∙ ap (λ (x : List ℕ). record_at x j) (sym (append-nil (assignment_records 0 (circuits_of s) made.plan.assignments)))
-        ∙ assignment_record_lem 0 (circuits_of s) made.plan.assignments [] j one-given (omega (arith, many-circuits))
+        ∙ assignment_record_lem 0 (circuits_of s) made.plan.assignments [] j one_given (omega (arith, many_circuits))
 
     -- it is the bytes of the mended record
-    pub record-bytes : (after : Lent) → after ≡ mendedAreas → (j : ℕ) → j < m
+    pub record_bytes : (after : Lent) → after ≡ mended_areas → (j : ℕ) → j < m
         → record_at after.assigns j ≡ assignment_bytes (record_of (mended_records line.links line.wavelengths (old_fibres many before) (circuits_of s) (damaged s before)) j)
     unfolding assignment_record circuit assigned
-    record-bytes after so j h =
+    record_bytes after so j h =
         let g = get_or made.plan.assignments j unassigned in
         let z : 0 + g.fibre ≡ g.fibre = omega arith in
         assignment_at_lem after so j h
         ∙ ap (λ (q : ℕ). assignment_bytes (record { circuit = (get_or (circuits_of s) j nobody).number; fibre = q; wavelength = g.wavelength })) z
-        ∙ ap assignment_bytes (sym (record_is (circuits_of s) made.plan j (omega (arith, many-circuits))))
+        ∙ ap assignment_bytes (sym (record_is (circuits_of s) made.plan j (omega (arith, many_circuits))))
 
     -- that of a circuit that is not reported is what was found, written
-    pub record_kept : (after : Lent) → after ≡ mendedAreas → (j : ℕ) → j < m → reported (circuits_of s) made j ≡ false
+    pub record_kept : (after : Lent) → after ≡ mended_areas → (j : ℕ) → j < m → reported (circuits_of s) made j ≡ false
         → record_at after.assigns j ≡ assignment_bytes (assignment_of (record_at before.assigns j))
     unfolding record_of
     record_kept after so j h e =
-        record-bytes after so j h ∙ ap assignment_bytes (promised.record_kept j (omega (arith, many-circuits)) e ∙ assignments_in_at m before.assigns j no_record h)
+        record_bytes after so j h ∙ ap assignment_bytes (promised.record_kept j (omega (arith, many_circuits)) e ∙ assignments_in_at m before.assigns j no_record h)
 
-    module _ (after : Lent) (so : after ≡ mendedAreas) where
+    module _ (after : Lent) (so : after ≡ mended_areas) where
       -- the fibre list is made of the old records and of those that are added
       abbrev listed : after.fibres ≡ behind (8 * many) (fibre_list many added) before.fibres
       listed = ap (λ (x : Lent). x.fibres) so
@@ -227,57 +227,57 @@ module _ (line : Line) (s : List ℕ) (many : ℕ) (before : Lent) where
           ∙ ap (λ (x : List ℕ). assignment_records 0 (circuits_of s) made.plan.assignments ++ x) (sym (drop-nil (8 * length (circuits_of s))))
 
       -- the two lists hold the plan
-      plan-read-back : plan_in (many + length added) m after.fibres after.assigns ≡ made.plan
+      plan_read_back : plan_in (many + length added) m after.fibres after.assigns ≡ made.plan
       unfolding plan_in
-      plan-read-back =
+      plan_read_back =
           ap₂ (λ (x : List Fibre) (y : List Assignment). let p : Plan = record { fibres = x; assignments = y } in p)
-          (fibres_read many added before.fibres after.fibres added-room listed m after.assigns before.assigns ∙ sym old-and-added)
+          (fibres_read many added before.fibres after.fibres added_room listed m after.assigns before.assigns ∙ sym old_and_added)
           (ap (λ (p : Plan). p.assignments)
-          (ap₂ (λ (k : ℕ) (x : List ℕ). plan_in 0 k [] x) (sym many-circuits) assigns_are)
-          ∙ ap (λ (p : Plan). p.assignments) (plan_read made.plan (circuits_of s) [] [] one-given))
+          (ap₂ (λ (k : ℕ) (x : List ℕ). plan_in 0 k [] x) (sym many_circuits) assigns_are)
+          ∙ ap (λ (p : Plan). p.assignments) (plan_read made.plan (circuits_of s) [] [] one_given))
 
       -- and with the report the mending
       pub read_back : (counts : Counts) (lines : ℕ) → counts ≡ numbers → lines ≡ long → held line s many before after counts lines ≡ made
       read_back counts lines e l =
           ap₂ (λ (p : Plan) (r : List ReportLine). let x : Mend = record { plan = p; report = r } in x)
-          (ap (λ (k : ℕ). plan_in k m after.fibres after.assigns) (ap (λ (c : Counts). c.fibres) e ∙ fibre_count) ∙ plan-read-back)
+          (ap (λ (k : ℕ). plan_in k m after.fibres after.assigns) (ap (λ (c : Counts). c.fibres) e ∙ fibre_count) ∙ plan_read_back)
           (ap₂ report_in (l ∙ promised.lines_are) (ap (λ (x : Lent). x.report) so) ∙ report_read made.report before.report)
 
   module _ (after : Lent) (answer : Answer) (o : Outcome line s many before after answer) (counts : Counts) (lines : ℕ) (e : answer ≡ Mended counts lines) where
     -- no test applies
     pub passed_so : NoneApplies table
-    passed_so = (mended-so after answer o counts lines e).0
+    passed_so = (mended_so after answer o counts lines e).0
 
     -- the numbers are those of the mending
-    pub counts-are : counts ≡ numbers
-    counts-are = (mended-so after answer o counts lines e).1
+    pub counts_are : counts ≡ numbers
+    counts_are = (mended_so after answer o counts lines e).1
 
     -- and so are the lines
     pub lines_are : lines ≡ long
-    lines_are = (mended-so after answer o counts lines e).2
+    lines_are = (mended_so after answer o counts lines e).2
 
     -- the areas are written
-    pub made_so : after ≡ mendedAreas
-    made_so = (mended-so after answer o counts lines e).3
+    pub made_so : after ≡ mended_areas
+    made_so = (mended_so after answer o counts lines e).3
 
     -- how many fibres there are
     pub all_fibres : counts.fibres ≡ many + length added
-    all_fibres = ap (λ (c : Counts). c.fibres) counts-are ∙ fibre_count passed_so
+    all_fibres = ap (λ (c : Counts). c.fibres) counts_are ∙ fibre_count passed_so
 
     -- what the lists and the report hold
     pub holds : held line s many before after counts lines ≡ made
-    holds = read_back passed_so after made_so counts lines counts-are lines_are
+    holds = read_back passed_so after made_so counts lines counts_are lines_are
 
     -- the report is its lines, and the rest as it was
-    pub report-is : after.report ≡ report_bytes made.report ++ drop (12 * lines) before.report
+    pub report_is : after.report ≡ report_bytes made.report ++ drop (12 * lines) before.report
     unfolding report_list
-    report-is =
+    report_is =
         ap (λ (x : Lent). x.report) made_so
         ∙ ap (λ (k : ℕ). report_bytes made.report ++ drop (12 * k) before.report) (sym (lines_are ∙ (promised passed_so).lines_are))
 
     -- its lines have 12 bytes each
-    pub report-long : length (report_bytes made.report) ≡ 12 * lines
-    report-long = omega (arith, length_report_bytes made.report, lines_are, (promised passed_so).lines_are)
+    pub report_long : length (report_bytes made.report) ≡ 12 * lines
+    report_long = omega (arith, length_report_bytes made.report, lines_are, (promised passed_so).lines_are)
 
     -- the work area has zeros
     work_is : after.work ≡ replicate (4 * line.links + 4 * m) 0 ++ drop (4 * line.links + 4 * m) before.work
@@ -290,7 +290,7 @@ module _ (line : Line) (s : List ℕ) (many : ℕ) (before : Lent) where
         let p = passed_so in
         let cs = circuits_of s in
         let due = promised p in
-        let room = added-room p in
+        let room = added_room p in
         let fibres_listed = ap (λ (x : Lent). x.fibres) made_so in
         let k = 4 * line.links + 4 * m in
         record {
@@ -306,18 +306,18 @@ module _ (line : Line) (s : List ℕ) (many : ℕ) (before : Lent) where
           old_fibres_stay = olds_stay many added before.fibres after.fibres room fibres_listed;
           kept_stay = λ bytes j h not-told.
               record_kept p after made_so j h (ap (λ (M : Mend). reported cs M j) (sym holds) ∙ not-told)
-              ∙ bytes-kept before.assigns m (one_each line s many before p) bytes j h;
-          the_total = ap (λ (c : Counts). c.total) counts-are ∙ due.total_is ∙ sym (ap (λ (M : Mend). total M.plan.fibres) holds);
-          the_floor = ap (λ (c : Counts). c.floor) counts-are ∙ due.floor_is;
-          few_lines = omega (arith, lines_are, lines-few p);
-          few_fibres = omega (arith, all_fibres, lines_are, added-few p);
+              ∙ bytes_kept before.assigns m (one_each line s many before p) bytes j h;
+          the_total = ap (λ (c : Counts). c.total) counts_are ∙ due.total_is ∙ sym (ap (λ (M : Mend). total M.plan.fibres) holds);
+          the_floor = ap (λ (c : Counts). c.floor) counts_are ∙ due.floor_is;
+          few_lines = omega (arith, lines_are, lines_few p);
+          few_fibres = omega (arith, all_fibres, lines_are, added_few p);
           assigns_long =
-              ap (λ (x : Lent). length x.assigns) made_so ∙ length_assignment_records 0 cs made.plan.assignments (one-given p)
-              ∙ omega (arith, many-circuits p, one_each line s many before p);
+              ap (λ (x : Lent). length x.assigns) made_so ∙ length_assignment_records 0 cs made.plan.assignments (one_given p)
+              ∙ omega (arith, many_circuits p, one_each line s many before p);
           fibres_kept =
               ap (λ (x : ℕ). drop (8 * x) after.fibres) all_fibres ∙ rest_is many added before.fibres after.fibres room fibres_listed
               ∙ ap (λ (x : ℕ). drop (8 * x) before.fibres) (sym all_fibres);
-          report_kept = ap (drop (12 * lines)) report-is ∙ drop_at (report_bytes made.report) (drop (12 * lines) before.report) (12 * lines) report-long;
+          report_kept = ap (drop (12 * lines)) report_is ∙ drop_at (report_bytes made.report) (drop (12 * lines) before.report) (12 * lines) report_long;
           work_zeroed = ap (take k) work_is ∙ take_at (replicate k 0) (drop k before.work) k (length-replicate k 0);
           work_kept = ap (drop k) work_is ∙ drop_at (replicate k 0) (drop k before.work) k (length-replicate k 0);
         }

@@ -38,7 +38,7 @@ use Rattle.mender.specs.declared.Answer.{Answer}
 use Rattle.mender.specs.declared.Answer.TheVariants.{Mended}
 use Rattle.mender.proofs.Leaves.{due, fibre_room, fit, mend_passes, mendable, of_circuits, one_each, report_room, work_room}
 use Rattle.mender.proofs.Reading.{records_are}
-use Rattle.mender.proofs.Answers.{added, added-room, all_fibres, assignment_at_lem, counts-are, lines_are, made_so, numbers, passed-mended, passed_so, report-is, report-long}
+use Rattle.mender.proofs.Answers.{added, added_room, all_fibres, assignment_at_lem, counts_are, lines_are, made_so, numbers, passed_mended, passed_so, report_is, report_long}
 
 -- WHAT A CALL LEAVES AT THE START OF ITS FIBRE LIST AND OF ITS REPORT
 module _ (line : Line) (s : List ℕ) (many : ℕ) (before after : Lent) (answer : Answer) (o : Outcome line s many before after answer)
@@ -47,14 +47,14 @@ module _ (line : Line) (s : List ℕ) (many : ℕ) (before after : Lent) (answer
   fibre_start : take (8 * counts.fibres) after.fibres ≡ take (8 * many) before.fibres ++ fibre_records many (added line s many before)
   fibre_start =
       ap (λ (k : ℕ). take (8 * k) after.fibres) (all_fibres line s many before after answer o counts lines e)
-      ∙ records_are many (added line s many before) before.fibres after.fibres (added-room line s many before (passed_so line s many before after answer o counts lines e))
+      ∙ records_are many (added line s many before) before.fibres after.fibres (added_room line s many before (passed_so line s many before after answer o counts lines e))
       (ap (λ (x : Lent). x.fibres) (made_so line s many before after answer o counts lines e))
 
   -- the lines of the report
   report_start : take (12 * lines) after.report ≡ report_bytes (mended_to line s many before).report
   report_start =
-      ap (take (12 * lines)) (report-is line s many before after answer o counts lines e)
-      ∙ take_at (report_bytes (mended_to line s many before).report) (drop (12 * lines) before.report) (12 * lines) (report-long line s many before after answer o counts lines e)
+      ap (take (12 * lines)) (report_is line s many before after answer o counts lines e)
+      ∙ take_at (report_bytes (mended_to line s many before).report) (drop (12 * lines) before.report) (12 * lines) (report_long line s many before after answer o counts lines e)
 
 -- TWO CALLS
 module _ (line : Line) (many : ℕ) (s s' : List ℕ) (before after before' after' : Lent) (answer answer' : Answer)
@@ -145,9 +145,9 @@ module _ (line : Line) (many : ℕ) (s s' : List ℕ) (before after before' afte
       let q = d'.total_is ∙ sym alike.total_same ∙ sym d.total_is in
       let r = d'.floor_is ∙ sym alike.floor_same ∙ sym d.floor_is in
       let same : numbers line s' many before' ≡ numbers line s many before = λ i. record { fibres = p i; total = q i; floor = r i } in
-      passed-mended line s' many before' after' answer' calls.two passed'
+      passed_mended line s' many before' after' answer' calls.two passed'
       ∙ ap₂ Mended
-      (same ∙ sym (counts-are line s many before after answer calls.one counts lines e))
+      (same ∙ sym (counts_are line s many before after answer calls.one counts lines e))
       (d'.lines_are ∙ ap length (sym reports_alike) ∙ sym d.lines_are ∙ sym (lines_are line s many before after answer calls.one counts lines e))
 
   -- and leaves the same fibre records, the same report, and the same assignment record for each circuit

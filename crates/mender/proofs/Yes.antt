@@ -20,7 +20,7 @@ use Rattle.mender.specs.Outcome.{Outcome}
 use Rattle.mender.specs.Seen.{Seen2}
 use Rattle.mender.specs.declared.Answer.TheVariants.{Mended}
 use Rattle.mender.proofs.Leaves.{due, fit_on_line, of_circuits, one_each}
-use Rattle.mender.proofs.Answers.{added-room, all_fibres, holds, made_so, passed_so, seen_2}
+use Rattle.mender.proofs.Answers.{added_room, all_fibres, holds, made_so, passed_so, seen_2}
 use Rattle.mender.proofs.Reading.{as_long}
 
 module _ (line : Line) (s : List ℕ) (many : ℕ) (before after : Lent) (counts : Counts) (lines : ℕ) (o : Outcome line s many before after (Mended counts lines)) where
@@ -42,7 +42,7 @@ module _ (line : Line) (s : List ℕ) (many : ℕ) (before after : Lent) (counts
   fibres_long =
       let passed = passed_so line s many before after (Mended counts lines) o counts lines refl in
       let added = all_fibres line s many before after (Mended counts lines) o counts lines refl in
-      let room = added-room line s many before passed in
+      let room = added_room line s many before passed in
       let l = as_long many _ before.fibres after.fibres room (ap (λ (x : Lent). x.fibres) (made_so line s many before after (Mended counts lines) o counts lines refl)) in
       omega arith
 

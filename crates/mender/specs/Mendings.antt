@@ -36,10 +36,10 @@ pub record SameMending (s s' : List ℕ) (after after' : Lent) (counts : Counts)
   pub same_assignment : (i j : ℕ) → i < length s / 8 → j < length s' / 8 → number_in s i ≡ number_in s' j → record_at after'.assigns j ≡ record_at after.assigns i
 
 -- a call of `mend` on a register to which the check says yes, with at most 2,048 fibres and room
-pub record SoundCall (line : Line) (s : List ℕ) (many : ℕ) (before after : Lent) (answer : Answer) (long its-floor : ℕ) : Type 0 where
+pub record SoundCall (line : Line) (s : List ℕ) (many : ℕ) (before after : Lent) (answer : Answer) (long its_floor : ℕ) : Type 0 where
   pub call : Outcome line s many before after answer
   pub bytes : Bytes before.assigns
-  pub said_yes : checked line s (take (8 * many) before.fibres) before.assigns ≡ Yes long its-floor
+  pub said_yes : checked line s (take (8 * many) before.fibres) before.assigns ≡ Yes long its_floor
   pub few : many ≤ 2048
   pub room : Room line.links (length s / 8) many before
 

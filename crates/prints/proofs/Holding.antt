@@ -164,12 +164,12 @@ module _ (line : Line) (s : List ℕ) (before : Areas) (ample : Ample before.fib
         let one = few_fibres passed in
         let a = ample.fibres_ample in
         let b = ample.assigns_ample in
-        let its-floor = floor line.links line.wavelengths (circuits_of s) in
+        let its_floor = floor line.links line.wavelengths (circuits_of s) in
         let records = assignment_records 0 (circuits_of s) p.assignments in (
           (omega arith, omega arith, omega arith, few, omega arith),
-          sheet_cut line.grid (length p.fibres) (length s / 8) (total p.fibres) its-floor (fibre_records 0 p.fibres) records before.fibres after.fibres before.assigns after.assigns
+          sheet_cut line.grid (length p.fibres) (length s / 8) (total p.fibres) its_floor (fibre_records 0 p.fibres) records before.fibres after.fibres before.assigns after.assigns
               (fibres_written after answer o passed) (assigns_written after answer o passed)
-              ∙ ap (λ (k : ℕ). sheet_text line.grid (length p.fibres) k (fibre_records 0 p.fibres) records (total p.fibres) its-floor) (sym many),
+              ∙ ap (λ (k : ℕ). sheet_text line.grid (length p.fibres) k (fibre_records 0 p.fibres) records (total p.fibres) its_floor) (sym many),
         )
 
     -- by the verdict of tests 1 to 7 and 12

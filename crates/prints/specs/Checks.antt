@@ -23,7 +23,7 @@ use Rattle.prints.specs.Sheets.{unread}
 
 -- the one line of a finding
 abbrev pub finding_text : Finding → List ℕ
-finding_text (Yes long its-floor) = yes_line long its-floor
+finding_text (Yes long its_floor) = yes_line long its_floor
 finding_text (No rule place) = no_line rule place
 finding_text (Refused number place end) = refusal_line (record { number = number; place = place; end = end })
 
