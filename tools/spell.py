@@ -17,22 +17,15 @@ HEADED = re.compile(r"^ *(?:pub +)?(?:data|record) ([^\s(){}.;,@\"«»:]+)")
 OWN_PROOF = ("Proof.antt", "Answers.antt", "Invariants.antt")
 # A word that stands alone, no part of a path and no field.
 ALONE = re.compile(r'(?<![^\s(){},;@"«»])[^\s(){}.;,@"«»]+(?!\.[^\s.])')
-
-
 # Files where a field's label is spelled like a definition, which does no harm.
 LABELS = {("crates/mending/proofs/Mended.antt", "byNumber")}
 
 
 def snake(name):
-    spelled = name
-    if not name[:1].isupper():
-        spelled = re.sub(r"(?<=[a-z0-9])[A-Z]+", lambda m: "_" + m[0].lower(), name)
-    else:
-        head, dash, rest = name.partition("-")
-        spelled = head + dash + re.sub(r"(?<=[a-z0-9])[A-Z]", lambda m: "_" + m[0].lower(), rest)
-    if re.search(r"[^\W\d_]-[^\W\d_]", spelled) or re.search(r"\w-\w", spelled):
-        spelled = re.sub(r"(?<=[\w'])-(?=\w)", "_", spelled)
-    return spelled
+    """The plain spelling of a name. A type's keeps its capitals, up to the first dash."""
+    head, dash, rest = name.partition("-") if name[:1].isupper() else ("", "", name)
+    rest = re.sub(r"(?<=[a-z0-9])[A-Z]+", lambda m: "_" + m[0].lower(), rest)
+    return re.sub(r"(?<=[\w'])-(?=\w)", "_", head + dash + rest)
 
 
 def files(*endings):
@@ -49,6 +42,7 @@ def read(path):
 
 
 def names():
+    """Our names, each with the files that declare it."""
     found = collections.defaultdict(set)
     for path in files(".antt"):
         # A function's own proof stands in a folder of its name; a file beside those folders holds lemmas, whatever it is called.
@@ -64,6 +58,7 @@ def names():
 
 
 def turned(text, table):
+    """The text, with each whole word of the table in its new spelling."""
     return WORD.sub(lambda m: table.get(m[0], m[0]), text)
 
 
@@ -82,12 +77,8 @@ class Known(dict):
         return new if new in self.ours and word not in self.found else default
 
 
-def comment(text, table):
-    """A comment's words: those with a dash only between backquotes."""
-    return words_of(text, table)
-
-
-def words_of(text, table):
+def turn_words(text, table):
+    """The words of a page or a comment: those with a dash only between backquotes."""
     parts = text.split("`")
     camel = lambda m: table.get(m[0], m[0]) if "-" not in m[0] else m[0]
     return "`".join(turned(p, table) if i % 2 else WORD.sub(camel, p) for i, p in enumerate(parts))
@@ -100,7 +91,7 @@ def turn_antt(text, table):
         m = re.search(r"(?:^|(?<=\s))--(?=\s|$)", line)
         if m:
             code, mark, rest = line[: m.start()], "--", line[m.end() :]
-        out.append(turned(code, table) + mark + comment(rest, table))
+        out.append(turned(code, table) + mark + turn_words(rest, table))
     return "\n".join(out)
 
 
@@ -131,7 +122,7 @@ def turn_rt(text, table):
 
 
 def outside(text, table):
-    return re.sub(r"//[^\n]*", lambda m: comment(m[0], table), text)
+    return re.sub(r"//[^\n]*", lambda m: turn_words(m[0], table), text)
 
 
 def turn_edit(text, table):
@@ -140,22 +131,6 @@ def turn_edit(text, table):
         m = re.match(r"(old|new): ", line)
         out.append(turned(line, table) if m else line)
     return "\n".join(out)
-
-
-def turn_page(text, table):
-    return words_of(text, table)
-
-
-def bound(text):
-    """Names that a text binds by λ, let, a signature's parentheses or a clause's left side."""
-    out = set(re.findall(r"\blet ([^\s(){}.;,@\"«»]+)", text))
-    for group in re.findall(r"[({]([^(){}:]+) : ", text) + re.findall(r"λ ([^.]+)\.", text):
-        out.update(WORD.findall(group))
-    for line in text.splitlines():
-        m = re.match(r" *[^\s(){}.;,@\"«»:]+((?: [^\s(){}.;,@\"«»:=]+| \([^()]*\))*) = ?", line)
-        if m and not line.lstrip().startswith(("let ", "--")):
-            out.update(WORD.findall(m[1]))
-    return out
 
 
 def main(argv):
@@ -196,11 +171,11 @@ def main(argv):
     if "--check" in argv:
         return 0
     pages = ["README.md"] + [os.path.join(f, n) for f, _, ns in os.walk("docs") for n in sorted(ns) if n.endswith(".md") and n != "PORT.md"]
-    todo = [(p, turn_antt) for p in files(".antt")] + [(p, turn_rt) for p in files(".rt")] + [(p, turn_edit) for p in files(".edit")] + [(p, turn_page) for p in pages]
+    todo = [(p, turn_antt) for p in files(".antt")] + [(p, turn_rt) for p in files(".rt")] + [(p, turn_edit) for p in files(".edit")] + [(p, turn_words) for p in pages]
     many = 0
     for path, turn in todo:
         text = read(path)
-        new = turn(text, Known(table, found) if turn in (turn_edit, turn_page) else table)
+        new = turn(text, Known(table, found) if turn in (turn_edit, turn_words) else table)
         if new != text:
             many += 1
             with open(path, "w", encoding="utf-8") as f:
