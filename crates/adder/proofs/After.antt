@@ -20,7 +20,7 @@ use Rattle.additions.specs.Grown as Growth
 use Rattle.additions.specs.Adding.{add_counts}
 use Rattle.additions.proofs.Grown.{grown_within}
 use Rattle.planner.specs.Outcome as Planner
-use Rattle.planner.specs.declared.Answer.TheVariants.{Planned}
+use Rattle.std.specs.Prelude.{Ok}
 use Rattle.planner.proofs.Accepting as Tests
 use Rattle.planner.proofs.Demands as Demands
 use Rattle.checker.specs.Checked.{checked}
@@ -59,14 +59,14 @@ begun_plan kept lent b =
     (omega arith) (omega arith) (b.fibres ∙ sym (take-length kept.fibres)) (b.assigns ∙ sym (take-length kept.assigns))
 
 -- ONE CALL of `add` that is planned, whoever made the old plan
-module _ (line : Line) (old new : List ℕ) (named : Named) (before after : Areas) (counts : Counts) (o : Outcome line old new named before after (Planned counts)) where
+module _ (line : Line) (old new : List ℕ) (named : Named) (before after : Areas) (counts : Counts) (o : Outcome line old new named before after (Ok counts)) where
   -- no test applies
   passed : NoneApplies (add_table line old new named before)
-  passed = (planned_so line old new named before after (Planned counts) o counts refl).0
+  passed = (planned_so line old new named before after (Ok counts) o counts refl).0
 
   -- demand 2
   two : Seen2 line old new named before after counts
-  two = seen_2 line old new named before after (Planned counts) o counts refl
+  two = seen_2 line old new named before after (Ok counts) o counts refl
 
   -- the joined file is whole records
   joined_whole : length (old ++ new) ≡ 8 * (length old / 8 + length new / 8)
@@ -80,23 +80,23 @@ module _ (line : Line) (old new : List ℕ) (named : Named) (before after : Area
   holds_grown : plan_in counts.fibres (length (old ++ new) / 8) after.fibres after.assigns ≡ grown_plan line old new named before
   unfolding add_counts counts_of
   holds_grown =
-      let q = planned_so line old new named before after (Planned counts) o counts refl in
+      let q = planned_so line old new named before after (Ok counts) o counts refl in
       (λ i. plan_in (q.1 i).fibres (many i) (q.2 i).fibres (q.2 i).assigns) ∙ read_back line old new named before passed
 
   -- the lists are long enough for their records
   fibres_long : 8 * counts.fibres ≤ length after.fibres
   unfolding add_counts counts_of
   fibres_long =
-      let q = planned_so line old new named before after (Planned counts) o counts refl in
+      let q = planned_so line old new named before after (Ok counts) o counts refl in
       omega (arith, ap (λ (c : Counts). c.fibres) q.1, ap (λ (a : Areas). length a.fibres) q.2, (long_enough line old new named before passed).0)
 
   assigns_long : length (old ++ new) ≤ length after.assigns
   assigns_long =
-      let q = planned_so line old new named before after (Planned counts) o counts refl in
+      let q = planned_so line old new named before after (Ok counts) o counts refl in
       omega (arith, ap (λ (a : Areas). length a.assigns) q.2, (long_enough line old new named before passed).1, length-append old new)
 
   -- WHAT AN ADDITION WRITES GETS A YES, with its total and its floor
-  pub added_yes : checked line (old ++ new) (written_fibres counts after) (written_assignments (old ++ new) after) ≡ Yes counts.total counts.floor
+  pub added_yes : checked line (old ++ new) (written_fibres counts after) (written_assignments (old ++ new) after) ≡ Ok (Yes counts.total counts.floor)
   added_yes =
       let s = old ++ new in
       let lie = both_pass line old new named before passed in
@@ -108,24 +108,24 @@ module _ (line : Line) (old new : List ℕ) (named : Named) (before after : Area
       (subst (λ (q : Plan). FibresOn line.links q.fibres) (sym holds_grown) (grown_on_line line old new named before passed))
       (λ j h. two.in_file_order j (omega (arith, many)))
       (subst (Valid line.wavelengths (circuits_of s)) (sym held) two.valid))
-      ∙ ap₂ Yes (ap (λ (q : Plan). total q.fibres) held ∙ sym two.the_total) (sym two.the_floor)
+      ∙ ap₂ (λ (x y : ℕ). Ok (Yes x y)) (ap (λ (q : Plan). total q.fibres) held ∙ sym two.the_total) (sym two.the_floor)
 
   -- the files that it leaves hold the grown plan
   leaves_grown : plan_of_files (files_left (old ++ new) counts after) ≡ grown_plan line old new named before
   leaves_grown = left_plan_lem (old ++ new) (length (old ++ new) / 8) counts after (omega (arith, joined_whole)) fibres_long assigns_long ∙ holds_grown
 
 -- ONE CALL of `plan`: the files that it leaves hold R-1's plan
-leaves_planned : (line : Line) (s : List ℕ) (before after : Areas) (counts : Counts) → Planner.Outcome line s before after (Planned counts)
+leaves_planned : (line : Line) (s : List ℕ) (before after : Areas) (counts : Counts) → Planner.Outcome line s before after (Ok counts)
     → plan_of_files (files_left s counts after) ≡ Planner.plan_of line s
 leaves_planned line s before after counts o =
-    let took = Tests.accepted line s (Tests.of_circuits line s _ _ _ (Demands.planned_so line s before after (Planned counts) o counts refl).0) in
+    let took = Tests.accepted line s (Tests.of_circuits line s _ _ _ (Demands.planned_so line s before after (Ok counts) o counts refl).0) in
     left_plan_lem s (length s / 8) counts after took.file.whole (Checker.fibres_long line s before after counts o) (Checker.assigns_long line s before after counts o)
-    ∙ (Demands.seen_2 line s before after (Planned counts) o counts refl).the_plan
+    ∙ (Demands.seen_2 line s before after (Ok counts) o counts refl).the_plan
 
 -- CALLS ONE AFTER THE OTHER grow a plan of R-1
 grown : {k w : ℕ} {line : Line} {kept : Files} → After k w line kept → Grown k w (circuits_of kept.circuits) (plan_of_files kept)
 grown (planned line s before after counts o) =
-    let took = Tests.accepted line s (Tests.of_circuits line s _ _ _ (Demands.planned_so line s before after (Planned counts) o counts refl).0) in
+    let took = Tests.accepted line s (Tests.of_circuits line s _ _ _ (Demands.planned_so line s before after (Ok counts) o counts refl).0) in
     subst (Grown 0 line.wavelengths (circuits_of s)) (sym (leaves_planned line s before after counts o))
     (Growth.planned line.links line.wavelengths (circuits_of s) took.waves.0 took.file.lies)
 grown (added {k = k} {w = w} {kept = kept} earlier line new before after counts b o) =
@@ -146,18 +146,18 @@ after_within calls = grown_within (grown calls)
 
 -- and the check says yes to every plan that `plan` or an addition wrote
 pub after_yes : {k w : ℕ} {line : Line} {kept : Files} → After k w line kept
-    → checked line kept.circuits kept.fibres kept.assigns ≡ Yes (total (plan_of_files kept).fibres) (floor line.links line.wavelengths (circuits_of kept.circuits))
+    → checked line kept.circuits kept.fibres kept.assigns ≡ Ok (Yes (total (plan_of_files kept).fibres) (floor line.links line.wavelengths (circuits_of kept.circuits)))
 after_yes (planned line s before after counts o) =
-    let two = Demands.seen_2 line s before after (Planned counts) o counts refl in
+    let two = Demands.seen_2 line s before after (Ok counts) o counts refl in
     planned_yes line s before after counts o
-    ∙ ap₂ Yes (two.the_total ∙ ap (λ (q : Plan). total q.fibres) (two.the_plan ∙ sym (leaves_planned line s before after counts o))) two.the_floor
+    ∙ ap₂ (λ (x y : ℕ). Ok (Yes x y)) (two.the_total ∙ ap (λ (q : Plan). total q.fibres) (two.the_plan ∙ sym (leaves_planned line s before after counts o))) two.the_floor
 after_yes (added {kept = kept} earlier line new before after counts b o) =
     let old = kept.circuits in
     let named = named_in kept in
-    let two = seen_2 line old new named before after (Planned counts) o counts refl in
+    let two = seen_2 line old new named before after (Ok counts) o counts refl in
     let d = due line old new named before (passed line old new named before after counts o) in
     added_yes line old new named before after counts o
-    ∙ ap₂ Yes
-    (ap (λ (c : Counts). c.total) (planned_so line old new named before after (Planned counts) o counts refl).1 ∙ d.total_is
+    ∙ ap₂ (λ (x y : ℕ). Ok (Yes x y))
+    (ap (λ (c : Counts). c.total) (planned_so line old new named before after (Ok counts) o counts refl).1 ∙ d.total_is
     ∙ ap (λ (q : Plan). total q.fibres) (sym (leaves_grown line old new named before after counts o)))
     two.the_floor

@@ -7,20 +7,19 @@ use mathlib.Core.Option.{some}
 use native.Mathlib.Omega.{arith}
 use lib.ListN.{length}
 use lib.Dec.{eqb, ltb}
+use Rattle.std.specs.Prelude.{Result, Ok, Err}
 use Rattle.records.specs.declared.Line.{Line}
+use Rattle.refusals.specs.declared.Reason.TheVariants.{PartRecord, TooManyCircuits, FibreRoom, AssignmentRoom, WorkRoom, UnfitPlan, NumberTaken}
 use Rattle.refusals.specs.Given.{NoneApplies}
 use Rattle.refusals.specs.Ends.{TellsEnd}
 use Rattle.refusals.specs.Table.{Row, circuit_rows, file_rows, first_record, line_rows, record_rows}
-use Rattle.refusals.specs.Refusals.{Refusal, refused_with}
-use Rattle.refusals.specs.declared.Verdict.{Verdict}
-use Rattle.refusals.specs.declared.Verdict.TheVariants.{Checked, Refused as Failed}
+use Rattle.refusals.specs.Refusals.{refusal_in}
+use Rattle.refusals.specs.declared.Refusal.{Refusal}
 use Rattle.refusals.proofs.EndLaws.{EachGives, circuits_tell, each_both, each_end, each_more, whole_tells}
 use Rattle.refusals.proofs.First.{verdict_given, verdict_passed, verdict_passes, verdict_refused}
 use Rattle.register.specs.Areas.{Areas, areas}
 use Rattle.register.specs.declared.Counts.{Counts}
-use Rattle.planner.specs.Outcome.{answer_by, if_accepted, refusal_of}
-use Rattle.planner.specs.declared.Answer.{Answer}
-use Rattle.planner.specs.declared.Answer.TheVariants.{Planned}
+use Rattle.planner.specs.Outcome.{Answer, answer_by, if_accepted}
 use Rattle.two_files.specs.Rows.{has_old, two_file_rows, two_record_rows}
 use Rattle.two_files.proofs.Told.{later_tells, two_records_tell}
 use Rattle.adder.specs.Table.{add_table, old_rows, room_rows, unfit}
@@ -31,26 +30,26 @@ use Rattle.adder.proofs.Leaves.{add_passes, fit_passes, passes_fit}
 use Rattle.adder.proofs.Written.{grown_areas, seen_grown}
 
 -- AN ANSWER BY A VERDICT t, with lent areas that are changed to `made` only where it accepts
-module _ (t : Verdict) (numbers : Counts) (answer : Answer) (before made after : Areas) (answered : answer ≡ answer_by t numbers)
+module _ (t : Result ℕ Refusal) (numbers : Counts) (answer : Answer) (before made after : Areas) (answered : answer ≡ answer_by t numbers)
     (listed : after.fibres ≡ if_accepted t made.fibres before.fibres) (assigned : after.assigns ≡ if_accepted t made.assigns before.assigns)
     (cleared : after.work ≡ if_accepted t made.work before.work) where
   -- a refusal is the verdict's, and changes nothing
-  refused_by : (r : Refusal) → refusal_of answer ≡ some r → (t ≡ refused_with r) × (after ≡ before)
+  refused_by : (r : Refusal) → refusal_in answer ≡ some r → (t ≡ Err r) × (after ≡ before)
   refused_by r e = go t answered listed assigned cleared
     where
-      go : (t : Verdict) → answer ≡ answer_by t numbers → after.fibres ≡ if_accepted t made.fibres before.fibres → after.assigns ≡ if_accepted t made.assigns before.assigns
-          → after.work ≡ if_accepted t made.work before.work → (t ≡ refused_with r) × (after ≡ before)
-      go (Checked m) a f g h = let z = sym (ap refusal_of a) ∙ e in absurd (let y : ◌≡◌ {A = ℕ} 0 1 = cc in omega arith)
-      go (Failed k p d) a f g h = let z = sym (ap refusal_of a) ∙ e in (cc, λ i. areas (f i) (g i) (h i))
+      go : (t : Result ℕ Refusal) → answer ≡ answer_by t numbers → after.fibres ≡ if_accepted t made.fibres before.fibres → after.assigns ≡ if_accepted t made.assigns before.assigns
+          → after.work ≡ if_accepted t made.work before.work → (t ≡ Err r) × (after ≡ before)
+      go (Ok m) a f g h = let z = sym (ap refusal_in a) ∙ e in cc
+      go (Err q) a f g h = let z = sym (ap refusal_in a) ∙ e in (let y : q ≡ r = cc in ap Err y, λ i. areas (f i) (g i) (h i))
 
   -- where it is planned the verdict accepts, the numbers are those, and the areas are so made
-  planned_by : (counts : Counts) → answer ≡ Planned counts → (m : ℕ) × (t ≡ Checked m) × (counts ≡ numbers) × (after ≡ made)
+  planned_by : (counts : Counts) → answer ≡ Ok counts → (m : ℕ) × (t ≡ Ok m) × (counts ≡ numbers) × (after ≡ made)
   planned_by counts e = go t answered listed assigned cleared
     where
-      go : (t : Verdict) → answer ≡ answer_by t numbers → after.fibres ≡ if_accepted t made.fibres before.fibres → after.assigns ≡ if_accepted t made.assigns before.assigns
-          → after.work ≡ if_accepted t made.work before.work → (m : ℕ) × (t ≡ Checked m) × (counts ≡ numbers) × (after ≡ made)
-      go (Checked m) a f g h = let z : Planned numbers ≡ Planned counts = sym a ∙ e in (m, refl, cc, λ i. areas (f i) (g i) (h i))
-      go (Failed k p d) a f g h = let z = sym e ∙ a in absurd (let y : ◌≡◌ {A = ℕ} 0 1 = cc in omega arith)
+      go : (t : Result ℕ Refusal) → answer ≡ answer_by t numbers → after.fibres ≡ if_accepted t made.fibres before.fibres → after.assigns ≡ if_accepted t made.assigns before.assigns
+          → after.work ≡ if_accepted t made.work before.work → (m : ℕ) × (t ≡ Ok m) × (counts ≡ numbers) × (after ≡ made)
+      go (Ok m) a f g h = let z : ◌≡◌ {A = Answer} (Ok numbers) (Ok counts) = sym a ∙ e in (m, refl, cc, λ i. areas (f i) (g i) (h i))
+      go (Err q) a f g h = let z = sym e ∙ a in cc
 
 -- no test of the line is about ends: without records there is none, and it is the same test
 line_tells : (line : Line) (m : ℕ) (s : List ℕ) → EachGives (TellsEnd line.links m s) (line_rows line)
@@ -73,16 +72,16 @@ add_tells line old new named lent =
     let m = length new / 8 in
     let P : Refusal → Type 0 = TellsEnd n (k + m) (old ++ new) in
     let whole = whole_tells n (k + m) (old ++ new) in
-    each_more P _ _ (whole 1 (not (eqb (length old % 8) 0)) (λ z. omega arith))
-    (each_more P _ _ (whole 1 (not (eqb (length new % 8) 0)) (λ z. omega arith))
-    (each_more P _ _ (whole 2 (ltb 2048 (k + m)) (λ z. omega arith))
+    each_more P _ _ (whole PartRecord (not (eqb (length old % 8) 0)) (λ z. omega arith))
+    (each_more P _ _ (whole PartRecord (not (eqb (length new % 8) 0)) (λ z. omega arith))
+    (each_more P _ _ (whole TooManyCircuits (ltb 2048 (k + m)) (λ z. omega arith))
     (each_both P (line_rows line) _ (line_tells line (k + m) (old ++ new))
     (each_both P (two_record_rows n k m old new) _ (two_records_tell n k m old new)
-    (each_more P _ _ (whole 8 (ltb (length lent.fibres) (8 * (named.fibres + m))) (λ z. omega arith))
-    (each_more P _ _ (whole 9 (ltb (length lent.assigns) (8 * (named.assignments + m))) (λ z. omega arith))
-    (each_more P _ _ (whole 10 (ltb (length lent.work) (4 * n + 4 * (k + m))) (λ z. omega arith))
-    (each_more P _ _ (whole 13 (unfit line old named lent.fibres lent.assigns) (λ z. omega arith))
-    (each_more P _ _ (later_tells n (k + m) (old ++ new) k 14 (first_record (has_old old k new) m) (λ z. omega arith))
+    (each_more P _ _ (whole FibreRoom (ltb (length lent.fibres) (8 * (named.fibres + m))) (λ z. omega arith))
+    (each_more P _ _ (whole AssignmentRoom (ltb (length lent.assigns) (8 * (named.assignments + m))) (λ z. omega arith))
+    (each_more P _ _ (whole WorkRoom (ltb (length lent.work) (4 * n + 4 * (k + m))) (λ z. omega arith))
+    (each_more P _ _ (whole UnfitPlan (unfit line old named lent.fibres lent.assigns) (λ z. omega arith))
+    (each_more P _ _ (later_tells n (k + m) (old ++ new) k NumberTaken (first_record (has_old old k new) m) (λ z. omega arith))
     (each_end P))))))))))
 
 module _ (line : Line) (old new : List ℕ) (named : Named) (before : Areas) where
@@ -100,11 +99,11 @@ module _ (line : Line) (old new : List ℕ) (named : Named) (before : Areas) whe
 
   module _ (after : Areas) (answer : Answer) (o : Outcome line old new named before after answer) where
     -- a refusal is the verdict's, and changes nothing
-    refused_so : (r : Refusal) → refusal_of answer ≡ some r → (judged line old new named before ≡ refused_with r) × (after ≡ before)
+    refused_so : (r : Refusal) → refusal_in answer ≡ some r → (judged line old new named before ≡ Err r) × (after ≡ before)
     refused_so = refused_by _ (grown_numbers line old new named before) answer before made after o.answered o.listed o.assigned o.cleared
 
     -- a planned answer has the grown plan's numbers, and the areas are written
-    pub planned_so : (counts : Counts) → answer ≡ Planned counts → NoneApplies table × (counts ≡ grown_numbers line old new named before) × (after ≡ made)
+    pub planned_so : (counts : Counts) → answer ≡ Ok counts → NoneApplies table × (counts ≡ grown_numbers line old new named before) × (after ≡ made)
     unfolding judged
     planned_so counts e =
         let p = planned_by _ (grown_numbers line old new named before) answer before made after o.answered o.listed o.assigned o.cleared counts e in
@@ -114,12 +113,12 @@ module _ (line : Line) (old new : List ℕ) (named : Named) (before : Areas) whe
     pub seen_1 : Seen1 line old new named before after answer
     unfolding judged
     seen_1 =
-        let by : Verdict → Answer = λ t. answer_by t (grown_numbers line old new named before) in
-        let planned : NoneApplies table → (counts : Counts) × (answer ≡ Planned counts) =
+        let by : Result ℕ Refusal → Answer = λ t. answer_by t (grown_numbers line old new named before) in
+        let planned : NoneApplies table → (counts : Counts) × (answer ≡ Ok counts) =
         λ f. (grown_numbers line old new named before, o.answered ∙ ap by (verdict_passes table all f)) in
         record {
           as_tabled = λ r e. verdict_refused table all r (refused_so r e).0;
-          whenever_tabled = λ r g. ap refusal_of (o.answered ∙ ap by (verdict_given table all r g));
+          whenever_tabled = λ r g. ap refusal_in (o.answered ∙ ap by (verdict_given table all r g));
           otherwise_planned = planned;
           planned_if = λ p.
               planned
@@ -131,7 +130,7 @@ module _ (line : Line) (old new : List ℕ) (named : Named) (before : Areas) whe
         }
 
     -- demand 2
-    pub seen_2 : (counts : Counts) → answer ≡ Planned counts → Seen2 line old new named before after counts
+    pub seen_2 : (counts : Counts) → answer ≡ Ok counts → Seen2 line old new named before after counts
     seen_2 counts e =
         let p = planned_so counts e in
         subst (λ (lent : Areas). Seen2 line old new named before lent counts) (sym p.2)

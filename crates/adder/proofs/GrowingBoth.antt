@@ -1,10 +1,9 @@
 -- Both files of circuits as one: it passes the tests, and has the floor of both. Assumes nothing.
-use Prim.Native.Nat.{◌*◌, ◌+◌, ◌-◌, ◌≤◌, ℕ}
-use lib.ListN.{get_or-append, get_or, length, length-append}
+use Prim.Native.Nat.{◌*◌, ◌+◌, ◌≤◌, ℕ}
+use lib.ListN.{get_or-append, get_or, length, length-append, take}
 use lib.Seq.{get_or-append-add, take_at}
 use mathlib.Core.List.{List, ◌++◌}
 use mathlib.Core.Path.{◌∙◌, ◌≡◌, ap, subst, sym}
-use borrow.Rule.Slice.PartMut.{mid_of}
 use native.Mathlib.Omega.{arith}
 use Rattle.method.specs.Fibres.{floor}
 use Rattle.method.specs.Line.{Distinct, Lies, circuit, nobody}
@@ -23,13 +22,13 @@ lies_both n cs ds a b j l =
 
 -- the joined file passes as one
 pub joined_accepted : (n w k m e : ℕ) (old new joined rest : List ℕ) → Accepted n w k old → Accepted n w m new → k + m ≤ 2048 → Distinct (circuits_in k old ++ circuits_in m new)
-    → e ≡ length (old ++ new) → joined ≡ (old ++ new) ++ rest → Accepted n w (k + m) (mid_of 0 (e - 0) joined)
+    → e ≡ length (old ++ new) → joined ≡ (old ++ new) ++ rest → Accepted n w (k + m) (take e joined)
 joined_accepted n w k m e old new joined rest a b few once long is =
     let q = a.file.whole in
     let r = b.file.whole in
     let l = length-append old new in
-    let s : mid_of 0 (e - 0) joined ≡ old ++ new = ap (mid_of 0 (e - 0)) is ∙ take_at (old ++ new) rest (e - 0) (omega arith) in
-    let cs : circuits_in (k + m) (mid_of 0 (e - 0) joined) ≡ circuits_in k old ++ circuits_in m new = ap (circuits_in (k + m)) s ∙ joined_circuits old new k m (sym q) in
+    let s : take e joined ≡ old ++ new = ap (take e) is ∙ take_at (old ++ new) rest e (sym long) in
+    let cs : circuits_in (k + m) (take e joined) ≡ circuits_in k old ++ circuits_in m new = ap (circuits_in (k + m)) s ∙ joined_circuits old new k m (sym q) in
     record {
       file = record {
         line = a.file.line;
@@ -41,12 +40,8 @@ joined_accepted n w k m e old new joined rest a b few once long is =
       waves = a.waves;
     }
 
--- there is room for it in the list where it was written
-pub joined_room : (e : ℕ) (both joined rest : List ℕ) → e ≡ length both → joined ≡ both ++ rest → e ≤ length joined
-joined_room e both joined rest long is = let n = ap length is ∙ length-append both rest in omega arith
-
 -- and has the floor of both
 pub joined_floor : (n w k m e : ℕ) (old new joined rest : List ℕ) (r : ℕ) → length old ≡ 8 * k → e ≡ length (old ++ new) → joined ≡ (old ++ new) ++ rest
-    → r ≡ floor n w (circuits_in (k + m) (mid_of 0 (e - 0) joined)) → r ≡ floor n w (circuits_in k old ++ circuits_in m new)
+    → r ≡ floor n w (circuits_in (k + m) (take e joined)) → r ≡ floor n w (circuits_in k old ++ circuits_in m new)
 joined_floor n w k m e old new joined rest r q long is is-floor =
-    is-floor ∙ ap (λ x. floor n w (circuits_in (k + m) x)) (ap (mid_of 0 (e - 0)) is ∙ take_at (old ++ new) rest (e - 0) (omega arith)) ∙ ap (floor n w) (joined_circuits old new k m (sym q))
+    is-floor ∙ ap (λ x. floor n w (circuits_in (k + m) x)) (ap (take e) is ∙ take_at (old ++ new) rest e (sym long)) ∙ ap (floor n w) (joined_circuits old new k m (sym q))

@@ -14,6 +14,7 @@ use Rattle.records.specs.declared.Circuit.{Circuit}
 use Rattle.records.specs.declared.Line.{Line}
 use Rattle.records.proofs.Files.{length_circuits_in}
 use Rattle.method.specs.Line.{Distinct, Lies, circuit}
+use Rattle.refusals.specs.declared.Reason.TheVariants.{PartRecord, TooManyCircuits, NumberTaken}
 use Rattle.refusals.specs.Given.{NoneApplies}
 use Rattle.refusals.specs.Table.{circuit_rows, file_rows, has_number, line_rows, no_end, record_rows, row5, row6, row7, whenever, wherever}
 use Rattle.refusals.proofs.FirstLaws.{first_end}
@@ -29,8 +30,8 @@ use Rattle.two_files.proofs.OldLaws.{none_twice}
 use Rattle.two_files.proofs.Told.{both_few, both_unlike}
 
 -- a file of whole records passes 1
-whole_passes : (s : List ℕ) (m : ℕ) → 8 * m ≡ length s → whenever 1 (not (eqb (length s % 8) 0)) ≡ none
-whole_passes s m e = let z : length s % 8 ≡ 0 = omega arith in ap (λ (b : Bool). whenever 1 (not b)) (eq-eqb (length s % 8) 0 z)
+whole_passes : (s : List ℕ) (m : ℕ) → 8 * m ≡ length s → whenever PartRecord (not (eqb (length s % 8) 0)) ≡ none
+whole_passes s m e = let z : length s % 8 ≡ 0 = omega arith in ap (λ (b : Bool). whenever PartRecord (not b)) (eq-eqb (length s % 8) 0 z)
 
 -- a file of m records that pass, with a line that does, passes the tests of circuits
 pub file_passes : (line : Line) (s : List ℕ) (m : ℕ) → 8 * m ≡ length s → m ≤ 2048 → NoneApplies (line_rows line)
@@ -38,7 +39,7 @@ pub file_passes : (line : Line) (s : List ℕ) (m : ℕ) → 8 * m ≡ length s 
 unfolding circuit_rows file_rows record_rows
 file_passes line s m whole few drawn five six seven =
     let e : length s / 8 ≡ m = omega arith in
-    none_both (file_rows s) _ (none_more _ _ (whole_passes s m whole) (none_more _ _ (passes_room 2 (length s / 8) 2048 (omega arith)) none_end))
+    none_both (file_rows s) _ (none_more _ _ (whole_passes s m whole) (none_more _ _ (passes_room TooManyCircuits (length s / 8) 2048 (omega arith)) none_end))
     (none_both (line_rows line) _ drawn
     (none_both (record_rows line.links (length s / 8) s) []
     (none_more _ _ (ap (row5 s) e ∙ five) (none_more _ _ (ap (row6 line.links s) e ∙ six) (none_more _ _ (ap (row7 s) e ∙ seven) none_end)))
@@ -126,7 +127,7 @@ module _ (old new : List ℕ) (old_records : 8 * (length old / 8) ≡ length old
         let m = length new / 8 in
         let s = old ++ new in
         let seven : row7 s (k + m) ≡ none = ap (row7 s) (sym joined_many) ∙ none_first _ _ (none_rest _ _ (none_rest _ _ (Tests.of_records line s passed))) in
-        ap (λ (o : Option ℕ). later k (wherever 14 no_end o))
+        ap (λ (o : Option ℕ). later k (wherever NumberTaken no_end o))
         (first_end (has_old old k new) m
         (λ j h.
         any_none (has_number old (number_in new j)) k
@@ -146,7 +147,7 @@ module _ (old new : List ℕ) (old_records : 8 * (length old / 8) ≡ length old
         let few = taken.file.few in
         none_more _ _ (whole_passes old (length old / 8) old_records)
         (none_more _ _ (whole_passes new (length new / 8) new_records)
-        (none_more _ _ (passes_room 2 (length old / 8 + length new / 8) 2048 (omega (arith, joined_many))) none_end))
+        (none_more _ _ (passes_room TooManyCircuits (length old / 8 + length new / 8) 2048 (omega (arith, joined_many))) none_end))
 
     -- nor those of their records
     pub records_pass : NoneApplies (two_record_rows line.links (length old / 8) (length new / 8) old new)

@@ -15,6 +15,7 @@ use Rattle.records.specs.declared.Circuit.{Circuit}
 use Rattle.records.specs.declared.Line.{Line}
 use Rattle.records.proofs.Files.{circuits_in_at, length_circuits_in}
 use Rattle.method.specs.Line.{Fibre, Valid, circuit, nobody}
+use Rattle.refusals.specs.declared.Reason.TheVariants.{FibreRoom, AssignmentRoom, WorkRoom, UnfitPlan}
 use Rattle.refusals.specs.Given.{NoneApplies}
 use Rattle.refusals.specs.Table.{circuit_rows, line_rows}
 use Rattle.refusals.proofs.Passed.{passed_room, passed5, passes_room, whenever_none}
@@ -62,7 +63,7 @@ module _ (line : Line) (old : List ℕ) (named : Named) (lent : Areas) where
       let fs = fibres_in named.fibres lent.fibres in
       let gs = assignments_in named.assignments lent.assigns in
       let o = first_broken line (circuits_of old) fs gs in
-      let t = whenever_none 13 (ltb 2048 named.fibres || is_broken o) e in
+      let t = whenever_none UnfitPlan (ltb 2048 named.fibres || is_broken o) e in
       record {
         few = ltb-false 2048 named.fibres (or_false_l (ltb 2048 named.fibres) (is_broken o) t);
         sound = yes_sound line (circuits_of old) fs gs (unbroken o (or_false_r (ltb 2048 named.fibres) (is_broken o) t));
@@ -146,10 +147,10 @@ module _ (line : Line) (old new : List ℕ) (named : Named) (lent : Areas) (pass
   unfolding room_rows
   rooms =
       let m = length new / 8 in
-      let nine = passed_room 9 (8 * (named.assignments + m)) (length lent.assigns) (none_first _ _ (none_rest _ _ of_rooms)) in (
-        passed_room 8 (8 * (named.fibres + m)) (length lent.fibres) (none_first _ _ of_rooms),
+      let nine = passed_room AssignmentRoom (8 * (named.assignments + m)) (length lent.assigns) (none_first _ _ (none_rest _ _ of_rooms)) in (
+        passed_room FibreRoom (8 * (named.fibres + m)) (length lent.fibres) (none_first _ _ of_rooms),
         omega (arith, one_each line old named lent fit),
-        passed_room 10 (4 * line.links + 4 * (length old / 8 + m)) (length lent.work) (none_first _ _ (none_rest _ _ (none_rest _ _ of_rooms))),
+        passed_room WorkRoom (4 * line.links + 4 * (length old / 8 + m)) (length lent.work) (none_first _ _ (none_rest _ _ (none_rest _ _ of_rooms))),
       )
 
   -- no new number is 0
@@ -191,8 +192,8 @@ add_passes line old new named lent a b p f x y z =
     none_both (two_file_rows old new) _ (files_pass old new a b line p)
     (none_both (line_rows line) _ (Tests.of_line line (old ++ new) p)
     (none_both (two_record_rows line.links (length old / 8) m old new) _ (records_pass old new a b line p)
-    (none_more _ _ (passes_room 8 (8 * (named.fibres + m)) (length lent.fibres) x)
-    (none_more _ _ (passes_room 9 (8 * (named.assignments + m)) (length lent.assigns) (omega (arith, one_each line old named lent f)))
-    (none_more _ _ (passes_room 10 (4 * line.links + 4 * (length old / 8 + m)) (length lent.work) z)
+    (none_more _ _ (passes_room FibreRoom (8 * (named.fibres + m)) (length lent.fibres) x)
+    (none_more _ _ (passes_room AssignmentRoom (8 * (named.assignments + m)) (length lent.assigns) (omega (arith, one_each line old named lent f)))
+    (none_more _ _ (passes_room WorkRoom (4 * line.links + 4 * (length old / 8 + m)) (length lent.work) z)
     (none_more _ _ (fit_passes line old named lent f)
     (none_more _ _ (no_old old new a b line p) none_end)))))))

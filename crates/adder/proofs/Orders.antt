@@ -28,8 +28,8 @@ use Rattle.additions.specs.AddDemands.{Permuted}
 use Rattle.additions.specs.Adding.{add_counts}
 use Rattle.additions.specs.Grown.{FibresOn}
 use Rattle.planner.specs.Seen.{SameSheet}
-use Rattle.planner.specs.declared.Answer.{Answer}
-use Rattle.planner.specs.declared.Answer.TheVariants.{Planned}
+use Rattle.planner.specs.Outcome.{Answer}
+use Rattle.std.specs.Prelude.{Ok}
 use Rattle.planner.proofs.Accepting as Tests
 use Rattle.planner.proofs.Among.{Among, circuits_pass}
 use Rattle.planner.proofs.Demands.{number_read}
@@ -50,7 +50,7 @@ use Rattle.adder.proofs.Written.{assignment_new, fibres_start, grown_areas, old_
 use Rattle.adder.proofs.Answers.{planned_so, seen_1}
 
 module _ (line : Line) (named : Named) (old new old' new' : List ℕ) (before after before' after' : Areas) (answer answer' : Answer)
-    (calls : TwoAdditions line named old new old' new' before after before' after' answer answer') (counts : Counts) (e : answer ≡ Planned counts) where
+    (calls : TwoAdditions line named old new old' new' before after before' after' answer answer') (counts : Counts) (e : answer ≡ Ok counts) where
   -- what the first call's tests left
   passed : NoneApplies (add_table line old new named before)
   passed = (planned_so line old new named before after answer calls.one counts e).0
@@ -194,11 +194,11 @@ module _ (line : Line) (named : Named) (old new old' new' : List ℕ) (before af
   numbers_same = λ i. record { fibres = length (alike.fibres_same i); total = alike.total_same i; floor = alike.floor_same i }
 
   -- so the second call is planned, with the same answer
-  planned_too : answer' ≡ Planned counts
+  planned_too : answer' ≡ Ok counts
   planned_too =
       let p = (seen_1 line old' new' named before' after' answer' calls.two).otherwise_planned passed' in
       p.1
-      ∙ ap Planned
+      ∙ ap Ok
       ((planned_so line old' new' named before' after' answer' calls.two p.0 p.1).1
       ∙ sym numbers_same ∙ sym (planned_so line old new named before after answer calls.one counts e).1)
 

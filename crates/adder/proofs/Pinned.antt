@@ -4,7 +4,7 @@ use mathlib.Core.List.{List}
 use mathlib.Core.Path.{◌∙◌, ◌≡◌, sym}
 use Rattle.records.specs.declared.Line.{Line}
 use Rattle.register.specs.Areas.{Areas}
-use Rattle.planner.specs.declared.Answer.{Answer}
+use Rattle.planner.specs.Outcome.{Answer}
 use Rattle.planner.proofs.Pinned.{same_areas}
 use Rattle.adder.specs.Outcome.{Outcome}
 use Rattle.adder.specs.declared.Named.{Named}

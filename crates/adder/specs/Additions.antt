@@ -5,7 +5,7 @@
 -- `proofs/Orders.antt` shows `same_addition`: of `TwoAdditions`, if one call is planned, the other gives the `SameSheet`.
 -- `proofs/Nothing.antt` shows `nothing_new`, an addition of nothing, and `nothing_old`, an addition to nothing.
 -- Assumes nothing.
-use Rattle.std.specs.Prelude.{ℕ, suc, min, ◌*◌, ◌/◌, ◌<◌, ◌≡◌, List, ◌++◌, length, take}
+use Rattle.std.specs.Prelude.{ℕ, suc, min, ◌*◌, ◌/◌, ◌<◌, ◌≡◌, List, ◌++◌, length, take, Ok}
 use Rattle.records.specs.Records.{record_at, circuits_of}
 use Rattle.records.specs.declared.Line.{Line}
 use Rattle.method.specs.Demands.{Rearranged}
@@ -14,8 +14,7 @@ use Rattle.register.specs.Areas.{Areas}
 use Rattle.register.specs.Plans.{plan_in}
 use Rattle.register.specs.declared.Counts.{Counts}
 use Rattle.planner.specs.Outcome as Planner
-use Rattle.planner.specs.declared.Answer.{Answer}
-use Rattle.planner.specs.declared.Answer.TheVariants.{Planned}
+use Rattle.planner.specs.Outcome.{Answer}
 use Rattle.adder.specs.Outcome.{Outcome}
 use Rattle.adder.specs.declared.Named.{Named}
 
@@ -45,10 +44,10 @@ pub record Begins (kept : Files) (lent : Areas) : Type 0 where
 -- After k w line kept: one call of `plan` and then k calls of `add`, each on the files that the last one left, left these;
 -- w is the least that the calls were given, and the last one was given this line. Each call has its own line
 pub data After : ℕ → ℕ → Line → Files → Type 0 where
-  planned : (line : Line) (s : List ℕ) (before after : Areas) (counts : Counts) → Planner.Outcome line s before after (Planned counts)
+  planned : (line : Line) (s : List ℕ) (before after : Areas) (counts : Counts) → Planner.Outcome line s before after (Ok counts)
       → After 0 line.wavelengths line (files_left s counts after)
   added : {k w : ℕ} {last : Line} {kept : Files} → After k w last kept → (line : Line) (new : List ℕ) (before after : Areas) (counts : Counts) → Begins kept before
-      → Outcome line kept.circuits new (named_in kept) before after (Planned counts)
+      → Outcome line kept.circuits new (named_in kept) before after (Ok counts)
       → After (suc k) (min w line.wavelengths) line (files_left (kept.circuits ++ new) counts after)
 
 -- no old records, as they are named in an addition to nothing

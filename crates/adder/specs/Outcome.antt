@@ -1,23 +1,22 @@
 -- What `add` answers, and what the three lent areas hold afterwards, for every input. What a reader must believe.
 -- Assumes nothing.
-use Rattle.std.specs.Prelude.{ℕ, ◌+◌, ◌*◌, ◌/◌, ◌≡◌, List, length, drop}
+use Rattle.std.specs.Prelude.{ℕ, ◌+◌, ◌*◌, ◌/◌, ◌≡◌, List, length, drop, Result}
 use Rattle.records.specs.Records.{circuits_of}
 use Rattle.records.specs.declared.Line.{Line}
 use Rattle.method.specs.Line.{Plan}
 use Rattle.refusals.specs.Table.{verdict}
-use Rattle.refusals.specs.declared.Verdict.{Verdict}
+use Rattle.refusals.specs.declared.Refusal.{Refusal}
 use Rattle.register.specs.Areas.{Areas, zeroed_to}
 use Rattle.register.specs.Lists.{fibre_list, assignment_list, behind}
 use Rattle.register.specs.Plans.{plan_in}
 use Rattle.register.specs.declared.Counts.{Counts}
 use Rattle.additions.specs.Adding.{add, add_counts}
-use Rattle.planner.specs.Outcome.{answer_by, if_accepted}
-use Rattle.planner.specs.declared.Answer.{Answer}
+use Rattle.planner.specs.Outcome.{answer_by, if_accepted, Answer}
 use Rattle.adder.specs.Table.{add_table}
 use Rattle.adder.specs.declared.Named.{Named}
 
 -- the verdict of the tests: the first refusal that applies, or else how many circuits there are in both files
-unfoldable pub judged : Line → List ℕ → List ℕ → Named → Areas → Verdict
+unfoldable pub judged : Line → List ℕ → List ℕ → Named → Areas → Result ℕ Refusal
 judged line old new named lent = verdict (add_table line old new named lent) (length old / 8 + length new / 8)
 
 -- the old plan: that of the records that are named

@@ -1,13 +1,13 @@
 -- What a caller of `add` sees: the answer and the bytes of the lent areas. `proofs/Answers.antt` shows `seen`, that every call meets `Seen`. What a reader must believe.
 -- Demand 3 is about calls one after the other: Additions.
 -- Assumes nothing.
-use Rattle.std.specs.Prelude.{ℕ, ◌+◌, ◌*◌, ◌/◌, ◌≤◌, ◌≡◌, List, ◌++◌, length, take, drop, replicate}
+use Rattle.std.specs.Prelude.{ℕ, ◌+◌, ◌*◌, ◌/◌, ◌≤◌, ◌≡◌, List, ◌++◌, length, take, drop, replicate, Ok}
 use Rattle.std.proofs.Math.Option.{none, some}
 use Rattle.records.specs.Records.{circuits_of}
 use Rattle.records.specs.declared.Line.{Line}
 use Rattle.method.specs.Line.{total, Plan, Valid}
 use Rattle.method.specs.Fibres.{floor}
-use Rattle.refusals.specs.Refusals.{Refusal}
+use Rattle.refusals.specs.declared.Refusal.{Refusal}
 use Rattle.refusals.specs.Table.{Row, circuit_rows}
 use Rattle.refusals.specs.Given.{Given, NoneApplies}
 use Rattle.refusals.specs.Ends.{TellsEnd}
@@ -15,9 +15,8 @@ use Rattle.register.specs.Areas.{Areas}
 use Rattle.register.specs.Plans.{plan_in, Numbered, InFileOrder}
 use Rattle.register.specs.declared.Counts.{Counts}
 use Rattle.additions.specs.Added.{Added}
-use Rattle.planner.specs.Outcome.{refusal_of}
-use Rattle.planner.specs.declared.Answer.{Answer}
-use Rattle.planner.specs.declared.Answer.TheVariants.{Planned}
+use Rattle.refusals.specs.Refusals.{refusal_in}
+use Rattle.planner.specs.Outcome.{Answer}
 use Rattle.checker.specs.Sound.{Sound}
 use Rattle.checker.specs.Checked.{fibres_in, assignments_in}
 use Rattle.adder.specs.Table.{add_table, row13}
@@ -55,12 +54,12 @@ module _ (line : Line) (old new : List ℕ) (named : Named) (before after : Area
   -- demand 1: a refusal is given exactly as tabled, tells the wrong end as R-6 has it, and then no byte is changed; what passes is planned;
   -- and 13 applies exactly if the old plan is not fit
   pub record Seen1 (answer : Answer) : Type 0 where
-    pub as_tabled : (r : Refusal) → refusal_of answer ≡ some r → Given tests r
-    pub whenever_tabled : (r : Refusal) → Given tests r → refusal_of answer ≡ some r
-    pub otherwise_planned : NoneApplies tests → (counts : Counts) × (answer ≡ Planned counts)
-    pub planned_if : Passes → (counts : Counts) × (answer ≡ Planned counts)
-    pub end_told : (r : Refusal) → refusal_of answer ≡ some r → TellsEnd line.links circuits_in_all (old ++ new) r
-    pub unchanged : (r : Refusal) → refusal_of answer ≡ some r → after ≡ before
+    pub as_tabled : (r : Refusal) → refusal_in answer ≡ some r → Given tests r
+    pub whenever_tabled : (r : Refusal) → Given tests r → refusal_in answer ≡ some r
+    pub otherwise_planned : NoneApplies tests → (counts : Counts) × (answer ≡ Ok counts)
+    pub planned_if : Passes → (counts : Counts) × (answer ≡ Ok counts)
+    pub end_told : (r : Refusal) → refusal_in answer ≡ some r → TellsEnd line.links circuits_in_all (old ++ new) r
+    pub unchanged : (r : Refusal) → refusal_in answer ≡ some r → after ≡ before
     pub fit_passes : Fit line old named before → row13 line old named before.fibres before.assigns ≡ none
     pub passes_fit : row13 line old named before.fibres before.assigns ≡ none → Fit line old named before
 
@@ -89,4 +88,4 @@ module _ (line : Line) (old new : List ℕ) (named : Named) (before after : Area
   -- one call of `add`
   pub record Seen (answer : Answer) : Type 0 where
     pub demand_1 : Seen1 answer
-    pub demand_2 : (counts : Counts) → answer ≡ Planned counts → Seen2 counts
+    pub demand_2 : (counts : Counts) → answer ≡ Ok counts → Seen2 counts

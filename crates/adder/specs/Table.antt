@@ -3,6 +3,7 @@
 use Rattle.std.specs.Prelude.{ℕ, ◌+◌, ◌/◌, Bool, ◌||◌, List, [], ◌∷◌, ◌++◌, length, ltb}
 use Rattle.records.specs.Records.{circuits_of}
 use Rattle.records.specs.declared.Line.{Line}
+use Rattle.refusals.specs.declared.Reason.TheVariants.{UnfitPlan}
 use Rattle.refusals.specs.Table.{Row, whenever, line_rows, row8, row9, row10}
 use Rattle.two_files.specs.Rows.{row14, two_file_rows, two_record_rows}
 use Rattle.register.specs.Areas.{Areas}
@@ -17,7 +18,7 @@ unfit line old named fibres assigns =
 
 -- 13: the old plan is unfit
 abbrev pub row13 : Line → List ℕ → Named → List ℕ → List ℕ → Row
-row13 line old named fibres assigns = whenever 13 (unfit line old named fibres assigns)
+row13 line old named fibres assigns = whenever UnfitPlan (unfit line old named fibres assigns)
 
 -- the lent areas, by their lengths, for k old circuits and m new ones on n links: room for the old records of a list and 8 bytes for each new circuit;
 -- the work area counts both files

@@ -1,7 +1,8 @@
 // New circuits that passed the tests, added to an old plan that is fit: places on the old fibres, new fibres for those that fit nowhere, and the three numbers.
 // Each step that needs a table is a function of its own, so that no other table is on the stack while the new fibres are planned.
+// The lent areas go one by one: a struct that holds them by reference makes clauses say `.entry.` of each field.
 ghost use Rattle.std.specs.Prelude.{◌≡◌, List, ◌++◌, ℕ, ◌+◌, ◌*◌, ◌/◌, ◌≤◌, length};
-ghost use Rattle.records.specs.Records.{circuits_in};
+ghost use Rattle.records.specs.Records.{circuits_of};
 ghost use Rattle.method.specs.Fibres.{floor};
 ghost use Rattle.method.specs.Line.{Distinct};
 ghost use Rattle.register.specs.Areas.{areas};
@@ -17,33 +18,33 @@ use register::{Counts, Job};
 // The new circuits, by rising number, get the lowest places on the old fibres, each in its own record behind the old ones; 0 and 0 where there is none.
 fn find_places(
     old: &[u8],
-    k: usize,
     new: &[u8],
-    m: usize,
     fibres: &[u8],
     many: usize,
     w: usize,
     assigns: &mut [u8],
     ends: &mut [u8],
 )
-    requires by_index { (n : ℕ) × (work : List ℕ) × GrowAsked n w k m many old.now new.now (areas fibres.now assigns.old work) }
-    requires m_in_bounds { 4 * (k + m) ≤ length ends.old }
-    ensures { AllWritten (circuits_in m new.now) k (places_found w (circuits_in k old.now) (plan_in many k fibres.now assigns.old) (circuits_in m new.now)) assigns.old assigns.new }
+    requires asked { (n : ℕ) × (work : List ℕ) × GrowAsked n w (length old.now / 8) (length new.now / 8) many old.now new.now (areas fibres.now assigns.old work) }
+    requires room { 4 * (length old.now / 8 + length new.now / 8) ≤ length ends.old }
+    ensures { AllWritten (circuits_of new.now) (length old.now / 8) (places_found w (circuits_of old.now) (plan_in many (length old.now / 8) fibres.now assigns.old) (circuits_of new.now)) assigns.old assigns.new }
 {
+    let k = old.len() / 8;
+    let m = new.len() / 8;
     let mut table: [u8; 4096] = [0; 4096];
-    let e = 2 * m;
-    order::sort(new, m, &mut table[0..e]);
-    placing::place_new(old, k, new, m, &table[0..e], fibres, many, w, assigns, ends);
+    let order = &mut table[..2 * m];
+    order::sort(new, m, order);
+    placing::place_new(old, k, new, m, order, fibres, many, w, assigns, ends);
 }
 
 // The floor of both files.
-fn floor_of_both(old: &[u8], k: usize, new: &[u8], m: usize, n: usize, w: usize) -> usize
-    requires { Accepted n w k old.now × Accepted n w m new.now × (k + m ≤ 2048) × Distinct (circuits_in k old.now ++ circuits_in m new.now) }
-    ensures { result ≡ floor n w (circuits_in k old.now ++ circuits_in m new.now) }
+fn floor_of_both(old: &[u8], new: &[u8], n: usize, w: usize) -> usize
+    requires { Accepted n w (length old.now / 8) old.now × Accepted n w (length new.now / 8) new.now × (length old.now / 8 + length new.now / 8 ≤ 2048) × Distinct (circuits_of old.now ++ circuits_of new.now) }
+    ensures { result ≡ floor n w (circuits_of old.now ++ circuits_of new.now) }
 {
     let mut joined: [u8; 16384] = [0; 16384];
     let e = two_files::join(old, new, &mut joined);
-    checker::measures::floor_of(&joined[0..e], n, w, k + m)
+    checker::measures::floor_of(&joined[..e], n, w, old.len() / 8 + new.len() / 8)
 }
 
 // Adds the circuits of `new` to the plan of those of `old`, whose `many` fibres begin the fibre list.
@@ -61,27 +62,11 @@ pub fn grow(
 {
     let k = old.len() / 8;
     let m = new.len() / 8;
-    let a = 4 * line.links;
-    let e = a + 4 * (k + m);
     let span = checker::measures::length_of(fibres, many);
-    let floor = floor_of_both(old, k, new, m, line.links, line.wavelengths);
-    let job = Job {
-        links: line.links,
-        wavelengths: line.wavelengths,
-        circuits: m,
-        from: many,
-    };
-    find_places(
-        old,
-        k,
-        new,
-        m,
-        fibres,
-        many,
-        line.wavelengths,
-        assigns,
-        &mut work[a..e],
-    );
+    let floor = floor_of_both(old, new, line.links, line.wavelengths);
+    let ends = &mut work[4 * line.links..4 * line.links + 4 * (k + m)];
+    find_places(old, new, fibres, many, line.wavelengths, assigns, ends);
+    let job = Job::on(line, m, many);
     let added = parts::plan_left(job, new, k, fibres, assigns, work);
     Counts {
         fibres: many + added.fibres,

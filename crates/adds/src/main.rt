@@ -1,55 +1,45 @@
 // Adds the new circuits of the folder where it runs to the plan there, keeps the grown plan, and prints its sheet. It reads, calls and writes; which files are kept is
 // `grown` of crate `prints`, and what is printed is `add_printed`.
+// The lent areas go one by one: a struct that holds them by reference makes clauses say `.entry.` of each field.
 #![tactic(auto)]
 
-ghost use Rattle.std.specs.Prelude.{◌≡◌, ◌≤◌, length};
+ghost use Rattle.std.specs.Prelude.{◌≤◌, length, IfSome};
+ghost use Rattle.std.specs.Option.{option_copied};
 ghost use Rattle.prints.specs.Adding.{AddRead};
 
-use files::Moved;
-use files::pair::Replacement;
-use prints::adding::Grown;
 use std::io::Print;
 use std::rt::Files;
 
 // Writes the three files, and prints the sheet.
 fn keep<R: Files + Print>(rt: &R, circuits: &[u8], fibres: &[u8], assigns: &[u8], text: &[u8]) {
-    let plan = files::pair::replace_plan(rt, circuits, fibres, assigns);
-    match plan {
-        Replacement::Done => files::write_output(rt, text),
-        Replacement::NotWritten => files::write_output(
-            rt,
-            b"circuits.rec, fibres.rec and assign.rec cannot be written\n",
-        ),
-        Replacement::NotNamed => files::write_output(
-            rt,
-            b"circuits.rec, fibres.rec and assign.rec cannot be replaced\n",
-        ),
-    };
+    files::pair::print_replaced(
+        rt,
+        files::pair::replace_plan(rt, circuits, fibres, assigns),
+        text,
+        b"circuits.rec, fibres.rec and assign.rec cannot be written\n",
+        b"circuits.rec, fibres.rec and assign.rec cannot be replaced\n",
+    );
 }
 
 // From what reading the five files gave, keeps the grown plan and prints its sheet, or prints the refusal.
 fn grow_and_keep<R: Files + Print>(
     rt: &R,
-    got_line: Moved,
-    line: &[u8],
-    got_circuits: Moved,
+    line: Option<&[u8]>,
+    got_circuits: Option<usize>,
     circuits: &mut [u8],
-    got_new: Moved,
-    new: &[u8],
-    got_fibres: Moved,
+    new: Option<&[u8]>,
+    got_fibres: Option<usize>,
     fibres: &mut [u8],
-    got_assigns: Moved,
+    got_assigns: Option<usize>,
     assigns: &mut [u8],
     out: &mut [u8],
 )
-    requires { AddRead got_line got_circuits got_new got_fibres got_assigns line.now circuits.old new.now fibres.old assigns.old × (213072 ≤ length out.old) }
+    requires { AddRead got_circuits (option_copied new) got_fibres got_assigns circuits.old fibres.old assigns.old × (213072 ≤ length out.old) }
 {
     let grown = prints::adding::grow_files(
-        got_line,
         line,
         got_circuits,
         circuits,
-        got_new,
         new,
         got_fibres,
         fibres,
@@ -57,49 +47,48 @@ fn grow_and_keep<R: Files + Print>(
         assigns,
         out,
     );
-    match grown {
-        Grown::Three {
-            circuits: c,
-            fibres: f,
-            assigns: a,
-            text: k,
-        } => keep(
-            rt,
-            &circuits[0..c],
-            &fibres[0..f],
-            &assigns[0..a],
-            &out[0..k],
-        ),
-        Grown::Neither(k) => {
-            files::write_output(rt, &out[0..k]);
-        }
-    }
+    let text = &out[..grown.text];
+    let Some(long) = grown.files else {
+        let _ = files::write_output(rt, text);
+        return;
+    };
+    keep(
+        rt,
+        &circuits[..long.circuits],
+        &fibres[..long.fibres],
+        &assigns[..long.assigns],
+        text,
+    );
 }
 
-// Reads all five files: of each list a record more than an addition takes.
+// Reads a list, which stands at the start of its buffer: a record more than an addition takes. What is told: how many bytes.
+fn read_list<R: Files>(rt: &R, name: &str, list: &mut [u8]) -> Option<usize>
+    requires { 16392 ≤ length list.old }
+    ensures { IfSome result (λ k. k ≤ 16392) }
+{
+    files::read_start(rt, name, &mut list[..16392]).ok()
+}
+
+// Reads all five files.
 fn read_and_keep<R: Files + Print>(
     rt: &R,
-    line: &mut [u8],
-    circuits: &mut [u8],
-    new: &mut [u8],
-    fibres: &mut [u8],
-    assigns: &mut [u8],
-    out: &mut [u8],
-)
-    requires { (length line.old ≡ 7) × (length circuits.old ≡ 16392) × (length new.old ≡ 16392) × ((length fibres.old ≡ 32776) × (length assigns.old ≡ 32776) × (213072 ≤ length out.old)) }
-{
-    let got_line = files::read_file(rt, b"line.rec", line);
-    let got_circuits = files::read_file(rt, b"circuits.rec", circuits);
-    let got_new = files::read_file(rt, b"new.rec", new);
-    let got_fibres = files::read_file(rt, b"fibres.rec", &mut fibres[0..16392]);
-    let got_assigns = files::read_file(rt, b"assign.rec", &mut assigns[0..16392]);
+    line: &mut [u8; 7],
+    circuits: &mut [u8; 16392],
+    new: &mut [u8; 16392],
+    fibres: &mut [u8; 32776],
+    assigns: &mut [u8; 32776],
+    out: &mut [u8; 213072],
+) {
+    let line = files::read_file(rt, "line.rec", line).ok();
+    let got_circuits = files::read_start(rt, "circuits.rec", circuits).ok();
+    let new = files::read_file(rt, "new.rec", new).ok();
+    let got_fibres = read_list(rt, "fibres.rec", fibres);
+    let got_assigns = read_list(rt, "assign.rec", assigns);
     grow_and_keep(
         rt,
-        got_line,
         line,
         got_circuits,
         circuits,
-        got_new,
         new,
         got_fibres,
         fibres,

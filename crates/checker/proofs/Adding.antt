@@ -61,8 +61,7 @@ zeros_front a b h =
     ∙ take_at (replicate a 0) (replicate (b - a) 0) a (length-replicate {A = ℕ} a 0)
 
 -- the first 2 n bytes of a table of zeros are n cells that are 0
-pub zeros_lent : (N n : ℕ) → 2 * n ≤ N → (length (take (2 * n - 0) (replicate {A = ℕ} N 0)) ≡ 2 * n) × (cells_of (take (2 * n - 0) (replicate {A = ℕ} N 0)) ≡ replicate n 0)
+pub zeros_lent : (N n : ℕ) → 2 * n ≤ N → (length (take (2 * n) (replicate {A = ℕ} N 0)) ≡ 2 * n) × (cells_of (take (2 * n) (replicate {A = ℕ} N 0)) ≡ replicate n 0)
 zeros_lent N n h =
-    let z : 2 * n - 0 ≡ 2 * n = omega arith in
-    let e : take (2 * n - 0) (replicate {A = ℕ} N 0) ≡ replicate (2 * n) 0 = ap (λ (x : ℕ). take x (replicate {A = ℕ} N 0)) z ∙ zeros_front (2 * n) N h in
+    let e : take (2 * n) (replicate {A = ℕ} N 0) ≡ replicate (2 * n) 0 = zeros_front (2 * n) N h in
     (ap length e ∙ length-replicate {A = ℕ} (2 * n) 0, ap cells_of e ∙ cells_of_zeros n)

@@ -12,9 +12,8 @@ use Rattle.records.specs.declared.AssignmentRecord.{AssignmentRecord}
 use Rattle.records.specs.declared.Line.{Line}
 use Rattle.method.specs.Line.{Plan, Valid, total}
 use Rattle.method.specs.Fibres.{floor}
-use Rattle.refusals.specs.Refusals.{Refusal}
-use Rattle.refusals.specs.declared.Verdict.{Verdict}
-use Rattle.refusals.specs.declared.Verdict.TheVariants.{Checked, Refused as Failed}
+use Rattle.std.specs.Prelude.{Result, Ok, Err}
+use Rattle.refusals.specs.declared.Refusal.{Refusal}
 use Rattle.refusals.specs.Given.{Given, NoneApplies}
 use Rattle.refusals.proofs.First.{verdict_refused, verdict_given, verdict_passed, verdict_passes}
 use Rattle.checker.specs.Rules.{Breach, first_broken}
@@ -40,18 +39,18 @@ no_not_refused e = absurd (let z : ◌≡◌ {A = ℕ} 0 1 = cc in omega arith)
 
 -- what is found is a yes where no rule is broken, or else a no
 found_cases : {A : Type 0} (line : Line) (cs : List Circuit) (fs : List FibreRecord) (gs : List AssignmentRecord)
-    → (first_broken line cs fs gs ≡ none → says (found line cs fs gs) ≡ yes (length_in fs) (floor line.links line.wavelengths cs) → A)
-    → ((b : Breach) → first_broken line cs fs gs ≡ some b → says (found line cs fs gs) ≡ no b → A) → A
+    → (first_broken line cs fs gs ≡ none → says (Ok (found line cs fs gs)) ≡ yes (length_in fs) (floor line.links line.wavelengths cs) → A)
+    → ((b : Breach) → first_broken line cs fs gs ≡ some b → says (Ok (found line cs fs gs)) ≡ no b → A) → A
 unfolding found
 found_cases {A} line cs fs gs say deny = go (first_broken line cs fs gs) refl
   where
     go : (o : Option Breach) → first_broken line cs fs gs ≡ o → A
-    go none e = say e (ap (λ (o : Option Breach). says (finding_by o (length_in fs) (floor line.links line.wavelengths cs))) e)
-    go (some b) e = deny b e (ap (λ (o : Option Breach). says (finding_by o (length_in fs) (floor line.links line.wavelengths cs))) e)
+    go none e = say e (ap (λ (o : Option Breach). says (Ok (finding_by o (length_in fs) (floor line.links line.wavelengths cs)))) e)
+    go (some b) e = deny b e (ap (λ (o : Option Breach). says (Ok (finding_by o (length_in fs) (floor line.links line.wavelengths cs)))) e)
 
 module _ (line : Line) (s fibres assigns : List ℕ) where
   -- the answer
-  abbrev answer : Finding
+  abbrev answer : Result Finding Refusal
   answer = checked line s fibres assigns
 
   -- what is found of the bytes
@@ -68,40 +67,40 @@ module _ (line : Line) (s fibres assigns : List ℕ) where
 
   -- the answer is the table's refusal, or what is found
   answer_cases : {A : Type 0} → ((r : Refusal) → Given (tests line s fibres assigns) r → says answer ≡ refused r → A)
-      → (NoneApplies (tests line s fibres assigns) → answer ≡ finding → A) → A
+      → (NoneApplies (tests line s fibres assigns) → answer ≡ Ok finding → A) → A
   unfolding checked judged
   answer_cases {A} refuse tell = go (judged line s fibres assigns) refl
     where
-      go : (t : Verdict) → judged line s fibres assigns ≡ t → A
-      go (Checked m) e = tell (verdict_passed (tests line s fibres assigns) (length s / 8) m e).1 (ap (λ (t : Verdict). answer_by t finding) e)
-      go (Failed number place end) e =
-          refuse (record { number = number; place = place; end = end }) (verdict_refused (tests line s fibres assigns) (length s / 8) _ e) (ap (λ (t : Verdict). says (answer_by t finding)) e)
+      go : (t : Result ℕ Refusal) → judged line s fibres assigns ≡ t → A
+      go (Ok m) e = tell (verdict_passed (tests line s fibres assigns) (length s / 8) m e).1 (ap (λ (t : Result ℕ Refusal). answer_by t finding) e)
+      go (Err r) e =
+          refuse r (verdict_refused (tests line s fibres assigns) (length s / 8) r e) (ap (λ (t : Result ℕ Refusal). says (answer_by t finding)) e)
 
   -- a refusal as tabled is given
   tabled : (r : Refusal) → Given (tests line s fibres assigns) r → says answer ≡ refused r
   unfolding checked judged
-  tabled r g = ap (λ (t : Verdict). says (answer_by t finding)) (verdict_given (tests line s fibres assigns) (length s / 8) r g)
+  tabled r g = ap (λ (t : Result ℕ Refusal). says (answer_by t finding)) (verdict_given (tests line s fibres assigns) (length s / 8) r g)
 
   -- where no test refuses the answer is what is found
-  pub tests_pass : NoneApplies (tests line s fibres assigns) → answer ≡ finding
+  pub tests_pass : NoneApplies (tests line s fibres assigns) → answer ≡ Ok finding
   unfolding checked judged
-  tests_pass h = ap (λ (t : Verdict). answer_by t finding) (verdict_passes (tests line s fibres assigns) (length s / 8) h)
+  tests_pass h = ap (λ (t : Result ℕ Refusal). answer_by t finding) (verdict_passes (tests line s fibres assigns) (length s / 8) h)
 
   -- the length of the records is that of the plan that the bytes hold
   plan_held_lem : length_in (fibres_of fibres) ≡ total (held line s fibres assigns).fibres
   plan_held_lem = ap (λ (p : Plan). total p.fibres) (held_is (length fibres / 8) (length assigns / 8) fibres assigns)
 
   -- no test refuses and no rule is broken: yes, with length and floor
-  pub answers_yes : NoneApplies (tests line s fibres assigns) → breach ≡ none → answer ≡ Yes (total (held line s fibres assigns).fibres) its_floor
+  pub answers_yes : NoneApplies (tests line s fibres assigns) → breach ≡ none → answer ≡ Ok (Yes (total (held line s fibres assigns).fibres) its_floor)
   unfolding found
   answers_yes h e =
-      tests_pass h ∙ ap (λ (o : Option Breach). finding_by o (length_in (fibres_of fibres)) its_floor) e
-      ∙ ap (λ (x : ℕ). Yes x its_floor) plan_held_lem
+      tests_pass h ∙ ap (λ (o : Option Breach). Ok (finding_by o (length_in (fibres_of fibres)) its_floor)) e
+      ∙ ap (λ (x : ℕ). Ok (Yes x its_floor)) plan_held_lem
 
   -- and no, with the first breach
   answers_no : (b : Breach) → NoneApplies (tests line s fibres assigns) → breach ≡ some b → says answer ≡ no b
   unfolding found
-  answers_no b h e = ap says (tests_pass h) ∙ ap (λ (o : Option Breach). says (finding_by o (length_in (fibres_of fibres)) its_floor)) e
+  answers_no b h e = ap says (tests_pass h) ∙ ap (λ (o : Option Breach). says (Ok (finding_by o (length_in (fibres_of fibres)) its_floor))) e
 
   -- what a yes says
   said_yes : (long told-floor : ℕ) → says answer ≡ yes long told-floor → SaidYes line s fibres assigns long told-floor
@@ -152,7 +151,7 @@ module _ (line : Line) (s fibres assigns : List ℕ) where
       (λ b broken y. no_not_refused (sym y ∙ sym (ap says q) ∙ e)))
 
   -- every answer that meets the contract of `check_plan`
-  pub seen : (given : Finding) → given ≡ checked line s fibres assigns → Seen line s fibres assigns given
+  pub seen : (given : Result Finding Refusal) → given ≡ checked line s fibres assigns → Seen line s fibres assigns given
   seen given a =
       record {
         as_tabled = λ r e. said_refused r (sym (ap says a) ∙ e);

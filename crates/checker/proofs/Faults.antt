@@ -14,8 +14,8 @@ use Rattle.refusals.proofs.First.{record_first, record_none}
 use Rattle.refusals.proofs.FirstLaws.{first_hit, first_end}
 use Rattle.checker.specs.Rules.{Rule, Breach, lowest_broken, faulty, breach_at, first_fault}
 use Rattle.checker.specs.Sound.{rule_at, NoneBroken, NoneFaulty, FirstFault}
-use Rattle.checker.specs.Checked.{fault_of}
-use Rattle.checker.specs.declared.rules.Fault.TheVariants.{Nothing, Broken}
+use Rattle.std.specs.Prelude.{Some, None, is_some}
+use Rattle.checker.specs.Checked.{fault_of, rule_told}
 
 -- RULES BY RISING NUMBER, all above x
 abbrev pub Rising : ℕ → List Rule → Type 0
@@ -134,6 +134,24 @@ faulty_is rs h = ap not (ne_eqb (lowest_broken rs) 0 h)
 pub is_faulty_lem : (rs : List Rule) → faulty rs ≡ true → lowest_broken rs ≢ 0
 is_faulty_lem rs e z = clash (faulty rs) e (sound_is rs z)
 
+-- a rule is told: it is the lowest that is broken
+pub told_some : (y x : ℕ) → rule_told y ≡ Some x → (x ≡ y) × (x ≢ 0)
+told_some zero x e = cc
+told_some (suc y) x e = (let q : suc y ≡ x = cc in sym q, let q : suc y ≡ x = cc in λ z. omega arith)
+
+-- none is told: none is broken
+pub told_none : (y : ℕ) → rule_told y ≡ None → y ≡ 0
+told_none zero e = refl
+told_none (suc y) e = cc
+
+-- one is told exactly if one is broken
+pub told_faulty : (rs : List Rule) → is_some (rule_told (lowest_broken rs)) ≡ faulty rs
+told_faulty rs = go (lowest_broken rs)
+  where
+    go : (y : ℕ) → is_some (rule_told y) ≡ not (eqb y 0)
+    go zero = refl
+    go (suc y) = sym (ap not (ne_eqb (suc y) 0 (λ z. omega arith)))
+
 module _ (rules : ℕ → List Rule) where
   -- no rule is broken at any place before j
   abbrev pub SoundTo : ℕ → Type 0
@@ -193,14 +211,13 @@ module _ (rules : ℕ → List Rule) where
   sound_more j h e i l = by_eq i j (λ q. ap (λ (x : ℕ). lowest_broken (rules x)) q ∙ e) (λ q. h i (omega arith))
 
   -- the breach at place j is what a run through the places tells, if none before it is faulty
-  pub broken_at : (m j x : ℕ) → j < m → x ≡ lowest_broken (rules j) → x ≢ 0 → SoundTo j → Broken x (j + 1) ≡ fault_of (first_fault rules m)
+  pub broken_at : (m j x : ℕ) → j < m → x ≡ lowest_broken (rules j) → x ≢ 0 → SoundTo j → Some (record { rule = x; place = j + 1 }) ≡ fault_of (first_fault rules m)
   broken_at m j x l e t h =
-      let z : Broken (lowest_broken (rules j)) (suc j) ≡ fault_of (first_fault rules m) = sym (ap fault_of (fault_hit m j l (λ y. t (e ∙ y)) h)) in
       let k : j + 1 ≡ suc j = omega arith in
-      cc
+      (λ i. Some (record { rule = e i; place = k i })) ∙ sym (ap fault_of (fault_hit m j l (λ y. t (e ∙ y)) h))
 
   -- nothing is, if none is faulty
-  pub nothing_all : (m j : ℕ) → m ≤ j → SoundTo j → Nothing ≡ fault_of (first_fault rules m)
+  pub nothing_all : (m j : ℕ) → m ≤ j → SoundTo j → None ≡ fault_of (first_fault rules m)
   nothing_all m j l h = sym (ap fault_of (fault_end m (λ i b. h i (omega arith))))
 
   -- WITHOUT RUNNING THROUGH, for rules by rising number

@@ -9,6 +9,7 @@ use lib.Dec.{eqb, ltb}
 use borrow.Author.Tests.{eqb-true, eq-eqb, le-ltb, ltb-false, not-false}
 use Rattle.basics.proofs.Bools.{or_false_l, or_false_r}
 use Rattle.records.specs.declared.Line.{Line}
+use Rattle.refusals.specs.declared.Reason.TheVariants.{PartList}
 use Rattle.refusals.specs.Given.{NoneApplies}
 use Rattle.refusals.specs.Table.{no_end, circuit_rows}
 use Rattle.refusals.proofs.Passed.{wherever_none}
@@ -30,7 +31,7 @@ untold false place e = refl
 -- what is not refused is whole records, not more than the limit
 passed16 : (place limit has : ℕ) → row16 place limit has ≡ none → (8 * (has / 8) ≡ has) × (has / 8 ≤ limit)
 passed16 place limit has e =
-    let t = untold (not (eqb (has % 8) 0) || ltb limit (has / 8)) place (wherever_none 16 no_end (bad_list place limit has) e) in
+    let t = untold (not (eqb (has % 8) 0) || ltb limit (has / 8)) place (wherever_none PartList no_end (bad_list place limit has) e) in
     let a : has % 8 ≡ 0 = eqb-true (has % 8) 0 (not-false (eqb (has % 8) 0) (or_false_l (not (eqb (has % 8) 0)) _ t)) in
     (omega arith, ltb-false limit (has / 8) (or_false_r (not (eqb (has % 8) 0)) _ t))
 

@@ -22,7 +22,7 @@ use Rattle.register.specs.Plans.{InFileOrder, Numbered, plan_in, span_of}
 use Rattle.register.specs.declared.Counts.{Counts}
 use Rattle.register.proofs.Reading.{length_assignment_records, length_fibre_records}
 use Rattle.rows.specs.Accepted.{Accepted}
-use Rattle.planner.specs.declared.Answer.TheVariants.{Planned}
+use Rattle.std.specs.Prelude.{Ok}
 use Rattle.planner.specs.Outcome.{Outcome, plan_of}
 use Rattle.planner.specs.Seen.{Seen2, Seen3}
 use Rattle.planner.proofs.Accepting as Tests
@@ -95,7 +95,7 @@ module _ (line : Line) (s : List ℕ) (k : ℕ) (fibres assigns : List ℕ) wher
   -- sound records of circuits that pass their tests get a yes, with the plan's length and the floor
   pub records_yes : NoneApplies (circuit_rows line s) → k ≤ 4096 → 8 * k ≤ length fibres → length s ≤ length assigns
       → Sound line (circuits_of s) (fibres_in k fibres) (assignments_in m assigns)
-      → checked line s (take (8 * k) fibres) (take (length s) assigns) ≡ Yes (total written.fibres) (floor line.links line.wavelengths (circuits_of s))
+      → checked line s (take (8 * k) fibres) (take (length s) assigns) ≡ Ok (Yes (total written.fibres) (floor line.links line.wavelengths (circuits_of s)))
   unfolding found
   records_yes passed few fibre_room assign_room sound =
       let file = (Tests.accepted line s passed).file in
@@ -112,15 +112,15 @@ module _ (line : Line) (s : List ℕ) (k : ℕ) (fibres assigns : List ℕ) wher
       ap (λ (x : ℕ). assignments_in x assign_bytes) (let z : length assign_bytes / 8 ≡ m = omega arith in z)
       ∙ ap (λ (x : ℕ). assignments_in m (take x assigns)) file.whole ∙ taken_assignments m assigns in
       tests_pass line s fibre_bytes_lem assign_bytes (check_passes line s passed k m (length fibre_bytes_lem) (length assign_bytes) few file.few f g)
-      ∙ ap₂ (λ (x : List FibreRecord) (y : List AssignmentRecord). found line cs x y) fibres-in assigns-in
-      ∙ ap (λ (b : Option Breach). finding_by b (length_in fs) (floor line.links line.wavelengths cs)) (sound_yes line cs fs gs sound)
-      ∙ ap (λ (p : Plan). Yes (total p.fibres) (floor line.links line.wavelengths cs)) (held_is k m fibres assigns)
+      ∙ ap₂ (λ (x : List FibreRecord) (y : List AssignmentRecord). Ok (found line cs x y)) fibres-in assigns-in
+      ∙ ap (λ (b : Option Breach). Ok (finding_by b (length_in fs) (floor line.links line.wavelengths cs))) (sound_yes line cs fs gs sound)
+      ∙ ap (λ (p : Plan). Ok (Yes (total p.fibres) (floor line.links line.wavelengths cs))) (held_is k m fibres assigns)
 
 -- WHAT `plan` WRITES
-module _ (line : Line) (s : List ℕ) (before after : Areas) (counts : Counts) (o : Outcome line s before after (Planned counts)) where
+module _ (line : Line) (s : List ℕ) (before after : Areas) (counts : Counts) (o : Outcome line s before after (Ok counts)) where
   -- the tests of the circuits passed
   passed : NoneApplies (circuit_rows line s)
-  passed = Tests.of_circuits line s _ _ _ (planned_so line s before after (Planned counts) o counts refl).0
+  passed = Tests.of_circuits line s _ _ _ (planned_so line s before after (Ok counts) o counts refl).0
 
   -- what they left
   took : Accepted line.links line.wavelengths (length s / 8) s
@@ -128,10 +128,10 @@ module _ (line : Line) (s : List ℕ) (before after : Areas) (counts : Counts) (
 
   -- demands 2 and 3
   two : Seen2 line s before after counts
-  two = seen_2 line s before after (Planned counts) o counts refl
+  two = seen_2 line s before after (Ok counts) o counts refl
 
   three : Seen3 line s before after counts
-  three = seen_3 line s before after (Planned counts) o counts refl
+  three = seen_3 line s before after (Ok counts) o counts refl
 
   -- the fibre list is long enough for the records
   pub fibres_long : 8 * counts.fibres ≤ length after.fibres
@@ -139,10 +139,10 @@ module _ (line : Line) (s : List ℕ) (before after : Areas) (counts : Counts) (
       let laid = (plan_of line s).fibres in
       omega (
         arith,
-        ap length (fibres_are line s before after (Planned counts) o counts refl),
+        ap length (fibres_are line s before after (Ok counts) o counts refl),
         length-append (fibre_records 0 laid) (drop (8 * counts.fibres) before.fibres),
         length_fibre_records 0 laid,
-        fibre_count line s before after (Planned counts) o counts refl,
+        fibre_count line s before after (Ok counts) o counts refl,
       )
 
   -- and so is the assignment list
@@ -153,7 +153,7 @@ module _ (line : Line) (s : List ℕ) (before after : Areas) (counts : Counts) (
       let gs = (plan_of line s).assignments in
       omega (
         arith,
-        ap length (planned_so line s before after (Planned counts) o counts refl).3,
+        ap length (planned_so line s before after (Ok counts) o counts refl).3,
         length-append (assignment_records 0 cs gs) (drop (8 * length cs) before.assigns),
         length_assignment_records 0 cs gs (Tests.promised line s passed).rules.valid.all_assigned,
         length_circuits_in (length s / 8) s,
@@ -165,8 +165,8 @@ module _ (line : Line) (s : List ℕ) (before after : Areas) (counts : Counts) (
   written_sound = records_sound line s counts.fibres after.fibres after.assigns two.numbered two.rules.fibres_on_line two.in_file_order two.valid
 
   -- so what `plan` writes gets a yes, with its total and its floor
-  pub planned_yes : checked line s (written_fibres counts after) (written_assignments s after) ≡ Yes counts.total counts.floor
+  pub planned_yes : checked line s (written_fibres counts after) (written_assignments s after) ≡ Ok (Yes counts.total counts.floor)
   planned_yes =
       let few : counts.fibres ≤ 4096 = omega (arith, took.file.few, three.few_fibres) in
       records_yes line s counts.fibres after.fibres after.assigns passed few fibres_long assigns_long written_sound
-      ∙ ap₂ Yes (sym two.the_total) (sym two.the_floor)
+      ∙ ap₂ (λ (x y : ℕ). Ok (Yes x y)) (sym two.the_total) (sym two.the_floor)

@@ -1,5 +1,5 @@
 -- The rules of the assignments that were read, and the first fault among them from two searches: rules 4 to 7, then rule 8. Assumes nothing.
-use Prim.Native.Nat.{ℕ, ◌+◌, ◌-◌, ◌*◌, ◌<◌, ◌≤◌}
+use Prim.Native.Nat.{ℕ, suc, ◌+◌, ◌-◌, ◌*◌, ◌<◌, ◌≤◌}
 use mathlib.Core.Path.{◌≡◌, refl, ap, ◌∙◌, sym, subst}
 use mathlib.Core.Logic.{◌≢◌}
 use mathlib.Core.Bool.{true, ◌&&◌}
@@ -23,8 +23,11 @@ use Rattle.checker.specs.Rules.{Rule, rule8, lowest_broken, faulty, first_fault,
 use Rattle.checker.specs.Sound.{NoneBroken}
 use Rattle.checker.specs.Checked.{fibres_in, assignments_in, fault_of}
 use Rattle.checker.specs.inner.Runs.{own_rules_in}
-use Rattle.checker.specs.declared.rules.Fault.TheVariants.{Nothing, Broken}
-use Rattle.checker.proofs.Faults.{Numbered, SoundTo, rising_numbered, lowest_here, lowest_none, lowest_past, lowest_then, lowest_else, is_sound, is_faulty_lem, broken_at, nothing_all}
+use Rattle.std.specs.Prelude.{Option as Told, Some, None}
+use Rattle.checker.specs.declared.rules.Fault.{Fault}
+use Rattle.checker.proofs.Faults.{Numbered, SoundTo, rising_numbered, lowest_here, lowest_none, lowest_past, lowest_then, lowest_else, is_sound, is_faulty_lem, broken_at, nothing_all, sound_is, faulty_is, fault_none, fault_some}
+use Rattle.checker.proofs.Judging.{silent, loud}
+use Rattle.checker.proofs.Seeking.{stops_at, runs_out}
 use Rattle.checker.proofs.Reading.{length_fibres_in, assignments_in_at}
 
 module _ (w m k : ℕ) (s fibres assigns : List ℕ) where
@@ -62,8 +65,26 @@ module _ (w m k : ℕ) (s fibres assigns : List ℕ) where
   last_tells j there z =
       sym (lowest_else (own j) (rule8 (clashes_in s assigns j)) (own_numbered j) z) ∙ ap lowest_broken (rules_read j there)
 
+  -- the search for the first that breaks one of rules 4 to 7
+  abbrev pub own_first : ℕ
+  own_first = seek (λ j. faulty (own j)) 0 m
+
+  -- where the first that breaks one of rules 4 to 7 is told, its place is that of the search for it
+  pub own_at : (t : Told Fault) (f : Fault) → t ≡ fault_of (first_fault own m) → t ≡ Some f → (1 ≤ f.place) × (f.place - 1 ≡ own_first)
+  own_at t f e h =
+      let r = fault_some own m (record { rule = f.rule; place = f.place }) (loud (first_fault own m) t f e h) in
+      let there : f.place ≡ suc r.0 = r.1 in
+      let before : f.place - 1 ≡ r.0 = omega arith in
+      (omega arith, before ∙ stops_at (λ j. faulty (own j)) m r.0 r.2 (faulty_is (own r.0) r.4) (λ i l. sound_is (own i) (r.5 i l)))
+
+  -- where none is told the search runs out
+  pub own_nowhere : (t : Told Fault) → t ≡ fault_of (first_fault own m) → t ≡ None → m ≡ own_first
+  own_nowhere t e h =
+      let r = fault_none own m (silent (first_fault own m) t e h) in
+      runs_out (λ j. faulty (own j)) m m (omega arith) (λ i l. sound_is (own i) (r i l))
+
   -- p is the first that breaks one of rules 4 to 7, and q the first before it that clashes
-  module _ (p q : ℕ) (first-own : p ≡ seek (λ j. faulty (own j)) 0 m) (first-clash : q ≡ seek (clashes_in s assigns) 0 p) where
+  module _ (p q : ℕ) (first-own : p ≡ own_first) (first-clash : q ≡ seek (clashes_in s assigns) 0 p) where
     -- p is one of m, or m
     pub own_there : p ≤ m
     own_there = omega (arith, first-own, seek_le (λ j. faulty (own j)) 0 m)
@@ -73,7 +94,7 @@ module _ (w m k : ℕ) (s fibres assigns : List ℕ) where
     own_sound j l = is_sound (own j) (seek_miss (λ j. faulty (own j)) 0 m j (omega arith) (omega (arith, first-own)))
 
     -- at p one is
-    own_broken : p < m → lowest_broken (own p) ≢ 0
+    pub own_broken : p < m → lowest_broken (own p) ≢ 0
     own_broken l =
         is_faulty_lem (own p) (subst (λ (x : ℕ). faulty (own x) ≡ true) (sym first-own) (seek_hit (λ j. faulty (own j)) 0 m (omega (arith, first-own))))
 
@@ -85,7 +106,7 @@ module _ (w m k : ℕ) (s fibres assigns : List ℕ) where
         ∙ lowest_past (rule8 (clashes_in s assigns i)) [] (seek_miss (clashes_in s assigns) 0 p i (omega arith) (omega (arith, first-clash)))
 
     -- q is before p: it is the first faulty one, by rule 8
-    pub clash_found : q < p → Broken 8 (q + 1) ≡ fault_of (first_fault all m)
+    pub clash_found : q < p → Some (record { rule = 8; place = q + 1 }) ≡ fault_of (first_fault all m)
     clash_found l =
         let t : clashes_in s assigns q ≡ true = subst (λ (x : ℕ). clashes_in s assigns x ≡ true) (sym first-clash) (seek_hit (clashes_in s assigns) 0 p (omega (arith, first-clash))) in
         broken_at all m q 8 (omega (arith, own_there))
@@ -94,16 +115,28 @@ module _ (w m k : ℕ) (s fibres assigns : List ℕ) where
         (sound_to q (omega arith) (omega arith))
 
     -- none before p clashes: p is the first faulty one, by its lowest rule
-    pub own_found : (x : ℕ) → p ≤ q → p < m → x ≡ lowest_broken (own p) → Broken x (p + 1) ≡ fault_of (first_fault all m)
+    pub own_found : (x : ℕ) → p ≤ q → p < m → x ≡ lowest_broken (own p) → Some (record { rule = x; place = p + 1 }) ≡ fault_of (first_fault all m)
     own_found x a l e =
         broken_at all m p x l (e ∙ own_tells p l (own_broken l)) (λ z. own_broken l (sym e ∙ z)) (sound_to p (omega arith) a)
 
     -- and where p is m there is none
-    pub none_found : p ≤ q → m ≤ p → Nothing ≡ fault_of (first_fault all m)
+    pub none_found : p ≤ q → m ≤ p → None ≡ fault_of (first_fault all m)
     none_found a l = nothing_all all m p l (sound_to p (omega arith) a)
 
+  -- the one that is told stays the first faulty one, where no clash is before it
+  pub own_stays : (t : Told Fault) (f : Fault) (p q : ℕ) → t ≡ fault_of (first_fault own m) → t ≡ Some f → p ≡ f.place - 1 → q ≡ seek (clashes_in s assigns) 0 p → p ≤ q
+      → Some f ≡ fault_of (first_fault all m)
+  own_stays t f p q e h z y a =
+      let r = fault_some own m (record { rule = f.rule; place = f.place }) (loud (first_fault own m) t f e h) in
+      let there : f.place ≡ suc r.0 = r.1 in
+      let here : r.0 ≡ p = omega arith in
+      let told : f.place ≡ p + 1 = omega arith in
+      let below : p < m = omega (arith, r.2) in
+      ap (λ (x : ℕ). Some (let d : Fault = record { rule = f.rule; place = x } in d)) told
+      ∙ own_found p q (z ∙ (own_at t f e h).1) y f.rule a below (sym r.3 ∙ ap (λ (x : ℕ). lowest_broken (own x)) here)
+
   -- what the search for a clash asks
-  pub placed : (n p : ℕ) → p ≡ seek (λ j. faulty (own j)) 0 m → Accepted n w m s → k ≤ 4096 → 8 * m ≤ length assigns → Placed n k p s assigns
+  pub placed : (n p : ℕ) → p ≡ own_first → Accepted n w m s → k ≤ 4096 → 8 * m ≤ length assigns → Placed n k p s assigns
   unfolding fibre_in wave_in
   placed n p e taken few room =
       let there : p ≤ m = own_there p _ e refl in

@@ -6,7 +6,9 @@ use mathlib.Core.Option.{some}
 use native.Mathlib.Omega.{arith}
 use lib.ListN.{length}
 use Rattle.records.specs.declared.Line.{Line}
-use Rattle.refusals.specs.Refusals.{Refusal}
+use Rattle.refusals.specs.Refusals.{number_of}
+use Rattle.refusals.specs.declared.Refusal.{Refusal}
+use Rattle.refusals.specs.declared.Reason.TheVariants.{PartList}
 use Rattle.refusals.specs.Given.{InOrder}
 use Rattle.refusals.specs.Ends.{TellsEnd}
 use Rattle.refusals.specs.Table.{no_end, file_rows, line_rows, record_rows, circuit_rows, area_rows, plan_table}
@@ -15,8 +17,8 @@ use Rattle.refusals.proofs.Pieces.{plan_in_order, wherever_gives}
 use Rattle.checker.specs.Checked.{bad_list, row16, list_rows, check_table}
 
 -- a list's row gives 16
-sixteen : (place limit has : ℕ) (r : Refusal) → row16 place limit has ≡ some r → r.number ≡ 16
-sixteen place limit has = wherever_gives 16 no_end (bad_list place limit has)
+sixteen : (place limit has : ℕ) (r : Refusal) → row16 place limit has ≡ some r → number_of r.reason ≡ 16
+sixteen place limit has = wherever_gives PartList no_end (bad_list place limit has)
 
 -- refusal 6 of a check tells the wrong end as that of `plan` does, and no other refusal tells one
 pub check_tells : (line : Line) (s : List ℕ) (fibres assigns : ℕ) → EachGives (TellsEnd line.links (length s / 8) s) (check_table line s fibres assigns)
@@ -25,8 +27,8 @@ check_tells line s fibres assigns =
     let P : Refusal → Type 0 = TellsEnd line.links (length s / 8) s in
     let each = each_tells line.links (length s / 8) s in
     each_both P (circuit_rows line s) _ (circuits_tell line s)
-    (each_more P _ _ (each 16 (bad_list 1 4096 fibres) (λ z. omega arith))
-    (each_more P _ _ (each 16 (bad_list 2 2048 assigns) (λ z. omega arith))
+    (each_more P _ _ (each PartList (bad_list 1 4096 fibres) (λ z. omega arith))
+    (each_more P _ _ (each PartList (bad_list 2 2048 assigns) (λ z. omega arith))
     (each_end P)))
 
 -- the tests of a check stand in the order of their numbers, with 12 just before 4, as those of `plan` do

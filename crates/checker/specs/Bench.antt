@@ -1,25 +1,27 @@
 -- Bench cases of the check: each rule broken alone, two faults at once, and refusals. `proofs/Bench.antt` shows `bench_holds`, that each does.
 -- Assumes nothing.
-use Rattle.std.specs.Prelude.{ℕ, List, [], ◌∷◌, ◌≡◌}
+use Rattle.std.specs.Prelude.{ℕ, List, [], ◌∷◌, ◌≡◌, Some, None, Result, Ok}
 use Rattle.records.specs.declared.Circuit.{Circuit}
 use Rattle.records.specs.declared.FibreRecord.{FibreRecord}
 use Rattle.records.specs.declared.AssignmentRecord.{AssignmentRecord}
 use Rattle.records.specs.declared.Line.{Line}
 use Rattle.refusals.specs.Table.{verdict}
-use Rattle.refusals.specs.declared.Verdict.{Verdict}
-use Rattle.refusals.specs.declared.Verdict.TheVariants.{Checked, Refused as Failed}
+use Rattle.refusals.specs.Bench.{refused}
+use Rattle.refusals.specs.declared.Refusal.{Refusal}
+use Rattle.refusals.specs.declared.Reason.TheVariants.{PartRecord, Links, Wavelengths, NumberZero, WrongEnd, NumberTwice, Grid, PartList}
+use Rattle.refusals.specs.declared.End.TheVariants.{FirstPastLast}
 use Rattle.checker.specs.Checked.{check_table, found, checked}
 use Rattle.checker.specs.declared.Finding.{Finding}
-use Rattle.checker.specs.declared.Finding.TheVariants.{Yes, No, Refused}
+use Rattle.checker.specs.declared.Finding.TheVariants.{Yes, No}
 
 -- what a case says
 pub data Case : Type 0 where
   -- what is found of lists of records, on grid 1
   case : (n w : ℕ) → List Circuit → List FibreRecord → List AssignmentRecord → Finding → Case
   -- what is answered of bytes
-  bytes : (n w grid : ℕ) → (circuits fibres assigns : List ℕ) → Finding → Case
+  bytes : (n w grid : ℕ) → (circuits fibres assigns : List ℕ) → Result Finding Refusal → Case
   -- what the tests say of the circuit bytes and the lengths of the two lists, on grid 1
-  lengths : (n w : ℕ) → List ℕ → (fibres assigns : ℕ) → Verdict → Case
+  lengths : (n w : ℕ) → List ℕ → (fibres assigns : ℕ) → Result ℕ Refusal → Case
 
 -- a line of n links with w wavelengths of a grid
 abbrev pub on : ℕ → ℕ → ℕ → Line
@@ -186,45 +188,45 @@ twice_ends = 4 ∷ 0 ∷ 0 ∷ 0 ∷ 1 ∷ 0 ∷ 1 ∷ 0 ∷ 4 ∷ 0 ∷ 0 ∷ 0
 -- the refusals, and answers about bytes
 unfoldable pub refusals : List Case
 refusals =
-    bytes 1 1 1 circuit7 fibre1 on_wavelength_1 (Yes 1 1) ∷
+    bytes 1 1 1 circuit7 fibre1 on_wavelength_1 (Ok (Yes 1 1)) ∷
     -- no assignment
-    bytes 1 1 1 circuit7 fibre1 [] (No 3 0) ∷
+    bytes 1 1 1 circuit7 fibre1 [] (Ok (No 3 0)) ∷
     -- a fibre list that isn't whole records
-    bytes 1 1 1 circuit7 (1 ∷ []) on_wavelength_1 (Refused 16 1 0) ∷
+    bytes 1 1 1 circuit7 (1 ∷ []) on_wavelength_1 (refused PartList 1 None) ∷
     -- an assignment list that isn't whole records
-    bytes 1 1 1 circuit7 fibre1 (1 ∷ []) (Refused 16 2 0) ∷
+    bytes 1 1 1 circuit7 fibre1 (1 ∷ []) (refused PartList 2 None) ∷
     -- both
-    bytes 1 1 1 circuit7 (1 ∷ []) (1 ∷ []) (Refused 16 1 0) ∷
+    bytes 1 1 1 circuit7 (1 ∷ []) (1 ∷ []) (refused PartList 1 None) ∷
     -- a repeated number before a broken list
-    bytes 1 1 1 twice7 (1 ∷ []) on_wavelength_1 (Refused 7 2 0) ∷
+    bytes 1 1 1 twice7 (1 ∷ []) on_wavelength_1 (refused NumberTwice 2 None) ∷
     -- no wavelength before a repeated number
-    bytes 1 0 1 twice7 fibre1 on_wavelength_1 (Refused 4 0 0) ∷
+    bytes 1 0 1 twice7 fibre1 on_wavelength_1 (refused Wavelengths 0 None) ∷
     -- part of a circuit
-    bytes 1 1 1 (7 ∷ []) fibre1 on_wavelength_1 (Refused 1 0 0) ∷
+    bytes 1 1 1 (7 ∷ []) fibre1 on_wavelength_1 (refused PartRecord 0 None) ∷
     -- no link and no wavelength, and 3 before 4
-    bytes 0 0 1 [] [] [] (Refused 3 0 0) ∷
+    bytes 0 0 1 [] [] [] (refused Links 0 None) ∷
     -- a number 0 at place 2 before wrong ends at place 1
-    bytes 1 1 1 ends_number [] [] (Refused 5 2 0) ∷
+    bytes 1 1 1 ends_number [] [] (refused NumberZero 2 None) ∷
     -- wrong ends at place 3 before a number that stands twice, and which end is wrong
-    bytes 1 1 1 twice_ends [] [] (Refused 6 3 2) ∷
+    bytes 1 1 1 twice_ends [] [] (refused WrongEnd 3 (Some FirstPastLast)) ∷
     -- the longest line, and the most wavelengths of each grid
-    bytes 512 40 1 [] [] [] (Yes 0 0) ∷
-    bytes 1 80 2 [] [] [] (Yes 0 0) ∷
+    bytes 512 40 1 [] [] [] (Ok (Yes 0 0)) ∷
+    bytes 1 80 2 [] [] [] (Ok (Yes 0 0)) ∷
     -- one link more, and one wavelength more
-    bytes 513 40 1 [] [] [] (Refused 3 0 0) ∷
-    bytes 1 41 1 [] [] [] (Refused 4 0 0) ∷
-    bytes 1 81 2 [] [] [] (Refused 4 0 0) ∷
+    bytes 513 40 1 [] [] [] (refused Links 0 None) ∷
+    bytes 1 41 1 [] [] [] (refused Wavelengths 0 None) ∷
+    bytes 1 81 2 [] [] [] (refused Wavelengths 0 None) ∷
     -- grids that there are not: after 3, before 4 and before the records
-    bytes 1 1 0 [] [] [] (Refused 12 0 0) ∷
-    bytes 1 0 3 twice7 (1 ∷ []) on_wavelength_1 (Refused 12 0 0) ∷
-    bytes 0 1 3 [] [] [] (Refused 3 0 0) ∷
+    bytes 1 1 0 [] [] [] (refused Grid 0 None) ∷
+    bytes 1 0 3 twice7 (1 ∷ []) on_wavelength_1 (refused Grid 0 None) ∷
+    bytes 0 1 3 [] [] [] (refused Links 0 None) ∷
     -- wavelength 41 on grid 2
-    bytes 1 41 2 circuit7 fibre1 on_wavelength_41 (Yes 1 1) ∷
+    bytes 1 41 2 circuit7 fibre1 on_wavelength_41 (Ok (Yes 1 1)) ∷
     -- and on grid 1, where there are 40
-    bytes 1 40 1 circuit7 fibre1 on_wavelength_41 (No 7 1) ∷
+    bytes 1 40 1 circuit7 fibre1 on_wavelength_41 (Ok (No 7 1)) ∷
     -- the longest lists, and one record more
-    lengths 1 1 [] 32768 16384 (Checked 0) ∷
-    lengths 1 1 [] 32776 16384 (Failed 16 1 0) ∷
-    lengths 1 1 [] 32768 16392 (Failed 16 2 0) ∷
-    lengths 1 1 [] 32776 16392 (Failed 16 1 0) ∷
+    lengths 1 1 [] 32768 16384 (Ok 0) ∷
+    lengths 1 1 [] 32776 16384 (refused PartList 1 None) ∷
+    lengths 1 1 [] 32768 16392 (refused PartList 2 None) ∷
+    lengths 1 1 [] 32776 16392 (refused PartList 1 None) ∷
     []

@@ -1,12 +1,12 @@
 -- What a caller of `check_plan` sees. `proofs/Answers.antt` shows `seen`, that every call meets `Seen`, and `proofs/Planned.antt` that what `plan` writes gets a yes.
 -- What a reader must believe.
 -- Assumes nothing.
-use Rattle.std.specs.Prelude.{ℕ, ◌*◌, ◌/◌, ◌≡◌, List, length, take}
+use Rattle.std.specs.Prelude.{ℕ, ◌*◌, ◌/◌, ◌≡◌, List, length, take, Result}
 use Rattle.records.specs.Records.{circuits_of}
 use Rattle.records.specs.declared.Line.{Line}
 use Rattle.method.specs.Line.{total, Plan, Valid}
 use Rattle.method.specs.Fibres.{floor}
-use Rattle.refusals.specs.Refusals.{Refusal}
+use Rattle.refusals.specs.declared.Refusal.{Refusal}
 use Rattle.refusals.specs.Table.{Row}
 use Rattle.refusals.specs.Given.{Given, NoneApplies}
 use Rattle.refusals.specs.Ends.{TellsEnd}
@@ -57,7 +57,7 @@ module _ (line : Line) (s fibres assigns : List ℕ) where
     pub first : First b
 
   -- one call of `check_plan`: refused exactly as tabled, yes exactly if no rule is broken, no exactly with the first breach
-  pub record Seen (answer : Finding) : Type 0 where
+  pub record Seen (answer : Result Finding Refusal) : Type 0 where
     pub as_tabled : (r : Refusal) → says answer ≡ refused r → Given tests r
     pub whenever_tabled : (r : Refusal) → Given tests r → says answer ≡ refused r
     pub end_told : (r : Refusal) → says answer ≡ refused r → TellsEnd line.links (length s / 8) s r

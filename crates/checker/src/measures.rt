@@ -1,4 +1,5 @@
 // The length of the fibres, and the floor.
+// Records stand in lent bytes, so loops go over their places.
 ghost use Rattle.std.specs.Prelude.{◌≡◌, ◌*◌, ◌≤◌, length};
 ghost use Rattle.records.specs.Records.{circuits_in};
 ghost use Rattle.method.specs.Line.{span_length};
@@ -8,16 +9,14 @@ ghost use Rattle.rows.specs.inner.Loads.{Zeroed};
 ghost use Rattle.register.specs.Plans.{span_of};
 ghost use Rattle.checker.specs.Checked.{fibres_in, length_in};
 
+use records::FibreRecord;
+
 // The number of links that a fibre spans.
-fn span_of(f: records::FibreRecord) -> usize
+#[tactic(auto, unfolding(method::specs::Line::span_length))]
+fn span_of(f: FibreRecord) -> usize
     ensures { (result ≡ span_length (span_of f)) × (result ≤ 65536) }
 {
-    let past = records::numbers::index(f.last) + 1;
-    let first = records::numbers::index(f.first);
-    if past < first {
-        return 0;
-    }
-    past - first
+    (usize::from(f.last) + 1).saturating_sub(usize::from(f.first))
 }
 
 // The length of k fibres.
@@ -27,8 +26,7 @@ pub fn length_of(fibres: &[u8], k: usize) -> usize
 {
     let mut all = 0;
     for i in 0..k {
-        let f = records::fibre_at(fibres, i);
-        all += span_of(f);
+        all += span_of(records::record_at::<FibreRecord>(fibres, i));
     }
     all
 }
@@ -49,6 +47,5 @@ pub fn floor_of(circuits: &[u8], n: usize, w: usize, m: usize) -> usize
     ensures { result ≡ floor n w (circuits_in m circuits.now) }
 {
     let mut cells: [u8; 1024] = [0; 1024];
-    let e = 2 * n;
-    floor_in(circuits, n, w, m, &mut cells[0..e])
+    floor_in(circuits, n, w, m, &mut cells[..2 * n])
 }

@@ -22,10 +22,10 @@ use Rattle.method.proofs.Links.{overlap_l, overlap_of, overlap_r}
 use Rattle.chains.specs.Riders.{First, Rides, fibre_in, key}
 use Rattle.chains.proofs.Walks.{first_next, first_none, key_one}
 use Rattle.clashes.specs.Clashes.{clash, clashes_in, wave_in}
-use Rattle.clashes.specs.inner.Sweeps.{Chains, Walk, clashes_on, to_go}
+use Rattle.clashes.specs.inner.Sweeps.{InChains, Walk, clashes_on, to_go}
 
 -- THE FIRST q CIRCUITS, in chains by fibre
-module _ {q : ℕ} {s assigns next heads : List ℕ} (h : Chains q s assigns next heads) where
+module _ {q : ℕ} {s assigns next heads : List ℕ} (h : InChains q s assigns next heads) where
   -- the circuits
   abbrev cs : List Circuit
   cs = circuits_in q s
@@ -123,11 +123,11 @@ module _ {q : ℕ} {s assigns next heads : List ℕ} (h : Chains q s assigns nex
       (λ l. any_hit (clashes_on s assigns f) q e (omega arith) (meets_on f d e l r u m))
 
   -- THE WALK begins at the head
-  pub walk_start : {o z : ℕ} {reach : List ℕ} → o < length heads → z ≡ get_or heads o 0 → ((v : ℕ) → get_or reach v 0 ≡ 0) → Walk cs on wave (o + 1) z reach
-  walk_start {o} {z} {reach} l e none =
+  pub walk_start : (o : ℕ) {z : ℕ} {reach : List ℕ} → z ≡ get_or heads o 0 → ((v : ℕ) → get_or reach v 0 ≡ 0) → Walk cs on wave (o + 1) z reach
+  walk_start o {z} {reach} e none =
       record {
         from = 0;
-        told = subst (First cs on (o + 1) 0) (sym e) (h.chained.head o l);
+        told = subst (First cs on (o + 1) 0) (sym e) (h.chained.head o);
         walked = record { all_end = λ d r b. absurd (omega arith); one_ends = λ v. inl (none v); past = λ d e r u w a b. absurd (omega arith) };
       }
 
@@ -156,7 +156,6 @@ module _ {q : ℕ} {s assigns next heads : List ℕ} (h : Chains q s assigns nex
     pub few : j < 2048
     pub listed : 8 * j + 8 ≤ length s
     pub assigned : 8 * j + 8 ≤ length assigns
-    pub linked : j < length next
 
   -- AT CIRCUIT j
   module _ {f j z : ℕ} {reach : List ℕ} (here : z ≡ suc j) (g : Walk cs on wave f z reach) where
@@ -173,7 +172,7 @@ module _ {q : ℕ} {s assigns next heads : List ℕ} (h : Chains q s assigns nex
     there =
         let k = sized in
         let b = rides.there in
-        record { few = omega (arith, h.few); listed = omega (arith, h.file); assigned = omega (arith, h.listed); linked = omega (arith, h.room) }
+        record { few = omega (arith, h.few); listed = omega (arith, h.file); assigned = omega (arith, h.listed) }
 
     -- its wavelength
     pub wave_is : {x : ℕ} {a : AssignmentRecord} → a ≡ assignment_of (record_at assigns j) → x ≡ a.wavelength → x ≡ wave j

@@ -1,8 +1,7 @@
 -- Texts worked out, line by line. Assumes nothing.
 use Prim.Native.Nat.{ℕ, suc, ◌≤◌}
-use mathlib.Core.Bool.{true, false}
 use mathlib.Core.List.{List, [], ◌∷◌}
-use mathlib.Core.Option.{none, some}
+use Rattle.std.specs.Prelude.{None, Some}
 use mathlib.Core.Path.{◌≡◌, ◌∙◌, refl, ap}
 use lib.ListN.{length}
 use borrow.Author.Tests.{leb-true, ltb-true}
@@ -11,11 +10,11 @@ use Rattle.records.specs.LineFiles.{line_bytes}
 use Rattle.records.specs.Records.{file_of}
 use Rattle.records.specs.declared.Circuit.{Circuit}
 use Rattle.entry_text.specs.declared.Header.{Header}
-use Rattle.entry_text.specs.declared.Entry.TheVariants.{Entered, Wrong}
+use Rattle.entry_text.specs.declared.Expected.TheVariants.{HeaderLine, CircuitLine, NoMoreCircuits}
 use Rattle.entry_text.specs.Entries.{Reading, is_space, is_digit, line_end, word_from, word_to, spelt, numeral_in, word_number, word_past, idle_line, header_in, circuit_in, circuits_from, header_from, headed, too_long, read, after}
-use Rattle.entry_text.specs.Entered.{entry_by, entry_of}
+use Rattle.entry_text.specs.Entered.{entered, wrong, entry_by, entry_of}
 use Rattle.entry_text.specs.declared.faults.Fault.TheVariants.{NumberMissing, Sign, Mark, NoNumber, TooLarge, WordTooMany}
-use Rattle.entry_text.specs.Pair.{files_by, files_of}
+use Rattle.entry_text.specs.Pair.{header_bytes, files_by, files_of}
 use Rattle.entry_text.specs.Lines.{next_line, after_lines, line_start, counting_line, line_of_record, header_line}
 use Rattle.entry_text.specs.Faults.{is_sign, is_mark, digits_to, word_fault, fault_from, line_fault, fault_at}
 use Rattle.entry_text.proofs.Headings.{read_as, entry_as}
@@ -27,7 +26,7 @@ circuit number first last = record { number = number; first = first; last = last
 
 -- five links and two wavelengths, with no grid named
 abbrev five_two : Header
-five_two = record { n = 5; w = 2; grid = 1; named = false }
+five_two = record { n = 5; w = 2; grid = None }
 
 -- five links, two wavelengths and four circuits: `5 2`, `10 1 3`, `20 2 5`, `30 1 2`, `40 4 5`
 unfoldable pub four : List ℕ
@@ -44,7 +43,7 @@ unfolding four
 four_short = leb-true (length four) 1048576 refl
 
 -- its lines, with room for four
-four_lines : circuits_from 33 four 4 2 4 ≡ record { circuits = circuit 10 1 3 ∷ circuit 20 2 5 ∷ circuit 30 1 2 ∷ circuit 40 4 5 ∷ []; stopped = none }
+four_lines : circuits_from 33 four 4 2 4 ≡ record { circuits = circuit 10 1 3 ∷ circuit 20 2 5 ∷ circuit 30 1 2 ∷ circuit 40 4 5 ∷ []; stopped = None }
 unfolding four line_end seek idle_line word_from is_space circuit_in word_number word_past numeral_in word_to spelt is_digit
 four_lines =
     circuits_more 33 32 four 4 2 4 3 10 (circuit 10 1 3) refl (ltb-true 4 32 refl) refl refl refl refl
@@ -59,13 +58,13 @@ unfolding four
 four_circuits = ap (λ (r : Reading). r.circuits) (read_as four 4 five_two 4 2 four_short four_header ∙ four_lines)
 
 -- and all four are entered
-pub four_answer : entry_of four 4 ≡ Entered five_two 4
+pub four_answer : entry_of four 4 ≡ entered five_two 4
 unfolding four
 four_answer = entry_as four 4 five_two 4 2 four_short four_header
     ∙ ap (λ (r : Reading). entry_by (headed five_two 4 2) (length r.circuits) r.stopped) four_lines
 
 -- its lines, with room for three
-three_lines : circuits_from 33 four 4 2 3 ≡ record { circuits = circuit 10 1 3 ∷ circuit 20 2 5 ∷ circuit 30 1 2 ∷ []; stopped = some (record { line = 5; expected = 3 }) }
+three_lines : circuits_from 33 four 4 2 3 ≡ record { circuits = circuit 10 1 3 ∷ circuit 20 2 5 ∷ circuit 30 1 2 ∷ []; stopped = Some (record { line = 5; expected = NoMoreCircuits }) }
 unfolding four line_end seek idle_line word_from is_space circuit_in word_number word_past numeral_in word_to spelt is_digit
 three_lines =
     circuits_more 33 32 four 4 2 3 2 10 (circuit 10 1 3) refl (ltb-true 4 32 refl) refl refl refl refl
@@ -79,7 +78,7 @@ unfolding four
 three_circuits = ap (λ (r : Reading). r.circuits) (read_as four 3 five_two 4 2 four_short four_header ∙ three_lines)
 
 -- and the fifth line has one too many
-pub three_answer : entry_of four 3 ≡ Wrong 5 3
+pub three_answer : entry_of four 3 ≡ wrong 5 NoMoreCircuits
 unfolding four
 three_answer = entry_as four 3 five_two 4 2 four_short four_header
     ∙ ap (λ (r : Reading). entry_by (headed five_two 4 2) (length r.circuits) r.stopped) three_lines
@@ -99,7 +98,7 @@ unfolding spaced
 spaced_short = leb-true (length spaced) 1048576 refl
 
 -- its lines
-spaced_lines : circuits_from 51 spaced 13 4 9 ≡ record { circuits = circuit 7 1 2 ∷ circuit 4294967295 65535 0 ∷ []; stopped = none }
+spaced_lines : circuits_from 51 spaced 13 4 9 ≡ record { circuits = circuit 7 1 2 ∷ circuit 4294967295 65535 0 ∷ []; stopped = None }
 unfolding spaced line_end seek idle_line word_from is_space circuit_in word_number word_past numeral_in word_to spelt is_digit
 spaced_lines =
     circuits_idle 51 50 spaced 13 4 9 15 refl (ltb-true 13 50 refl) refl refl
@@ -114,7 +113,7 @@ unfolding spaced
 spaced_circuits = ap (λ (r : Reading). r.circuits) (read_as spaced 9 five_two 13 4 spaced_short spaced_header ∙ spaced_lines)
 
 -- and both are entered
-pub spaced_answer : entry_of spaced 9 ≡ Entered five_two 2
+pub spaced_answer : entry_of spaced 9 ≡ entered five_two 2
 unfolding spaced
 spaced_answer = entry_as spaced 9 five_two 13 4 spaced_short spaced_header
     ∙ ap (λ (r : Reading). entry_by (headed five_two 13 4) (length r.circuits) r.stopped) spaced_lines
@@ -124,7 +123,7 @@ unfoldable pub nothing : List ℕ
 nothing = []
 
 -- `n w` or `n w grid` was expected in line 1
-pub nothing_wrong : entry_of nothing 9 ≡ Wrong 1 1
+pub nothing_wrong : entry_of nothing 9 ≡ wrong 1 HeaderLine
 unfolding nothing entry_of read too_long header_from header_in circuits_from circuit_in idle_line word_number word_past numeral_in word_from word_to line_end spelt is_space is_digit seek
 nothing_wrong = refl
 
@@ -133,7 +132,7 @@ unfoldable pub one : List ℕ
 one = 53 ∷ 10 ∷ []
 
 -- `n w` or `n w grid` was expected in line 1
-pub one_wrong : entry_of one 9 ≡ Wrong 1 1
+pub one_wrong : entry_of one 9 ≡ wrong 1 HeaderLine
 unfolding one entry_of read too_long header_from header_in circuits_from circuit_in idle_line word_number word_past numeral_in word_from word_to line_end spelt is_space is_digit seek
 one_wrong = refl
 
@@ -142,7 +141,7 @@ unfoldable pub short : List ℕ
 short = 53 ∷ 32 ∷ 50 ∷ 10 ∷ 49 ∷ 32 ∷ 50 ∷ 10 ∷ []
 
 -- a circuit was expected in line 2
-pub short_wrong : entry_of short 9 ≡ Wrong 2 2
+pub short_wrong : entry_of short 9 ≡ wrong 2 CircuitLine
 unfolding short entry_of read too_long header_from header_in circuits_from circuit_in idle_line word_number word_past numeral_in word_from word_to line_end spelt is_space is_digit seek
 short_wrong = refl
 
@@ -151,7 +150,7 @@ unfoldable pub long : List ℕ
 long = 53 ∷ 32 ∷ 50 ∷ 10 ∷ 49 ∷ 32 ∷ 50 ∷ 32 ∷ 51 ∷ 32 ∷ 52 ∷ 10 ∷ []
 
 -- a circuit was expected in line 2
-pub long_wrong : entry_of long 9 ≡ Wrong 2 2
+pub long_wrong : entry_of long 9 ≡ wrong 2 CircuitLine
 unfolding long entry_of read too_long header_from header_in circuits_from circuit_in idle_line word_number word_past numeral_in word_from word_to line_end spelt is_space is_digit seek
 long_wrong = refl
 
@@ -160,7 +159,7 @@ unfoldable pub large : List ℕ
 large = 53 ∷ 32 ∷ 50 ∷ 10 ∷ 49 ∷ 32 ∷ 54 ∷ 53 ∷ 53 ∷ 51 ∷ 54 ∷ 32 ∷ 50 ∷ 10 ∷ []
 
 -- a circuit was expected in line 2
-pub large_wrong : entry_of large 9 ≡ Wrong 2 2
+pub large_wrong : entry_of large 9 ≡ wrong 2 CircuitLine
 unfolding large entry_of read too_long header_from header_in circuits_from circuit_in idle_line word_number word_past numeral_in word_from word_to line_end spelt is_space is_digit seek
 large_wrong = refl
 
@@ -169,27 +168,27 @@ unfoldable pub letter : List ℕ
 letter = 53 ∷ 32 ∷ 50 ∷ 10 ∷ 49 ∷ 32 ∷ 50 ∷ 32 ∷ 51 ∷ 120 ∷ 10 ∷ []
 
 -- a circuit was expected in line 2
-pub letter_wrong : entry_of letter 9 ≡ Wrong 2 2
+pub letter_wrong : entry_of letter 9 ≡ wrong 2 CircuitLine
 unfolding letter entry_of read too_long header_from header_in circuits_from circuit_in idle_line word_number word_past numeral_in word_from word_to line_end spelt is_space is_digit seek
 letter_wrong = refl
 
 -- a number is missing
-pub short_fault : fault_at short 2 2 ≡ NumberMissing
+pub short_fault : fault_at short 2 CircuitLine ≡ NumberMissing
 unfolding short entry_of read too_long header_from header_in circuits_from circuit_in idle_line word_number word_past numeral_in word_from word_to line_end spelt is_space is_digit seek fault_at line_fault fault_from word_fault is_sign is_mark digits_to line_start after_lines next_line
 short_fault = refl
 
 -- a word is too many
-pub long_fault : fault_at long 2 2 ≡ WordTooMany
+pub long_fault : fault_at long 2 CircuitLine ≡ WordTooMany
 unfolding long entry_of read too_long header_from header_in circuits_from circuit_in idle_line word_number word_past numeral_in word_from word_to line_end spelt is_space is_digit seek fault_at line_fault fault_from word_fault is_sign is_mark digits_to line_start after_lines next_line
 long_fault = refl
 
 -- a number is too large
-pub large_fault : fault_at large 2 2 ≡ TooLarge
+pub large_fault : fault_at large 2 CircuitLine ≡ TooLarge
 unfolding large entry_of read too_long header_from header_in circuits_from circuit_in idle_line word_number word_past numeral_in word_from word_to line_end spelt is_space is_digit seek fault_at line_fault fault_from word_fault is_sign is_mark digits_to line_start after_lines next_line
 large_fault = refl
 
 -- a word is no number
-pub letter_fault : fault_at letter 2 2 ≡ NoNumber
+pub letter_fault : fault_at letter 2 CircuitLine ≡ NoNumber
 unfolding letter entry_of read too_long header_from header_in circuits_from circuit_in idle_line word_number word_past numeral_in word_from word_to line_end spelt is_space is_digit seek fault_at line_fault fault_from word_fault is_sign is_mark digits_to line_start after_lines next_line
 letter_fault = refl
 
@@ -198,7 +197,7 @@ unfoldable pub sign : List ℕ
 sign = 53 ∷ 32 ∷ 50 ∷ 10 ∷ 49 ∷ 32 ∷ 45 ∷ 50 ∷ 32 ∷ 51 ∷ 10 ∷ []
 
 -- the second line has it
-pub sign_fault : fault_at sign 2 2 ≡ Sign
+pub sign_fault : fault_at sign 2 CircuitLine ≡ Sign
 unfolding sign entry_of read too_long header_from header_in circuits_from circuit_in idle_line word_number word_past numeral_in word_from word_to line_end spelt is_space is_digit seek fault_at line_fault fault_from word_fault is_sign is_mark digits_to line_start after_lines next_line
 sign_fault = refl
 
@@ -207,7 +206,7 @@ unfoldable pub mark : List ℕ
 mark = 239 ∷ 187 ∷ 191 ∷ 53 ∷ 32 ∷ 50 ∷ 10 ∷ []
 
 -- the first line has it
-pub mark_fault : fault_at mark 1 1 ≡ Mark
+pub mark_fault : fault_at mark 1 HeaderLine ≡ Mark
 unfolding mark entry_of read too_long header_from header_in circuits_from circuit_in idle_line word_number word_past numeral_in word_from word_to line_end spelt is_space is_digit seek fault_at line_fault fault_from word_fault is_sign is_mark digits_to line_start after_lines next_line
 mark_fault = refl
 
@@ -235,13 +234,13 @@ unfoldable pub finer : List ℕ
 finer = 53 ∷ 32 ∷ 50 ∷ 32 ∷ 50 ∷ 10 ∷ []
 
 -- its header names the grid
-pub finer_answer : entry_of finer 9 ≡ Entered (record { n = 5; w = 2; grid = 2; named = true }) 0
+pub finer_answer : entry_of finer 9 ≡ entered (record { n = 5; w = 2; grid = Some 2 }) 0
 unfolding finer entry_of read too_long header_from header_in circuits_from circuit_in idle_line word_number word_past numeral_in word_from word_to line_end spelt is_space is_digit seek
 finer_answer = refl
 
 -- so its line's file has six bytes
-pub finer_files : files_of finer ≡ some (record { line = 5 ∷ 0 ∷ 2 ∷ 0 ∷ 2 ∷ 0 ∷ []; circuits = [] })
-unfolding finer files_of files_by file_of line_bytes entry_of read too_long header_from header_in circuits_from circuit_in idle_line word_number word_past numeral_in word_from word_to line_end spelt is_space is_digit seek
+pub finer_files : files_of finer ≡ Some (record { line = 5 ∷ 0 ∷ 2 ∷ 0 ∷ 2 ∷ 0 ∷ []; circuits = [] })
+unfolding finer files_of files_by header_bytes file_of line_bytes entry_of read too_long header_from header_in circuits_from circuit_in idle_line word_number word_past numeral_in word_from word_to line_end spelt is_space is_digit seek
 finer_files = refl
 
 -- no grid is named: `5 2`
@@ -249,8 +248,8 @@ unfoldable pub bare : List ℕ
 bare = 53 ∷ 32 ∷ 50 ∷ 10 ∷ []
 
 -- so its line's file has four bytes
-pub bare_files : files_of bare ≡ some (record { line = 5 ∷ 0 ∷ 2 ∷ 0 ∷ []; circuits = [] })
-unfolding bare files_of files_by file_of line_bytes entry_of read too_long header_from header_in circuits_from circuit_in idle_line word_number word_past numeral_in word_from word_to line_end spelt is_space is_digit seek
+pub bare_files : files_of bare ≡ Some (record { line = 5 ∷ 0 ∷ 2 ∷ 0 ∷ []; circuits = [] })
+unfolding bare files_of files_by header_bytes file_of line_bytes entry_of read too_long header_from header_in circuits_from circuit_in idle_line word_number word_past numeral_in word_from word_to line_end spelt is_space is_digit seek
 bare_files = refl
 
 -- a grid that is no number: `5 2 x`
@@ -258,12 +257,12 @@ unfoldable pub gridless : List ℕ
 gridless = 53 ∷ 32 ∷ 50 ∷ 32 ∷ 120 ∷ 10 ∷ []
 
 -- `n w` or `n w grid` was expected in line 1
-pub gridless_wrong : entry_of gridless 9 ≡ Wrong 1 1
+pub gridless_wrong : entry_of gridless 9 ≡ wrong 1 HeaderLine
 unfolding gridless entry_of read too_long header_from header_in circuits_from circuit_in idle_line word_number word_past numeral_in word_from word_to line_end spelt is_space is_digit seek
 gridless_wrong = refl
 
 -- a word is no number
-pub gridless_fault : fault_at gridless 1 1 ≡ NoNumber
+pub gridless_fault : fault_at gridless 1 HeaderLine ≡ NoNumber
 unfolding gridless entry_of read too_long header_from header_in circuits_from circuit_in idle_line word_number word_past numeral_in word_from word_to line_end spelt is_space is_digit seek fault_at line_fault fault_from word_fault is_sign is_mark digits_to line_start after_lines next_line
 gridless_fault = refl
 
@@ -272,11 +271,11 @@ unfoldable pub wide : List ℕ
 wide = 53 ∷ 32 ∷ 50 ∷ 32 ∷ 49 ∷ 32 ∷ 55 ∷ 10 ∷ []
 
 -- `n w` or `n w grid` was expected in line 1
-pub wide_wrong : entry_of wide 9 ≡ Wrong 1 1
+pub wide_wrong : entry_of wide 9 ≡ wrong 1 HeaderLine
 unfolding wide entry_of read too_long header_from header_in circuits_from circuit_in idle_line word_number word_past numeral_in word_from word_to line_end spelt is_space is_digit seek
 wide_wrong = refl
 
 -- a word is too many
-pub wide_fault : fault_at wide 1 1 ≡ WordTooMany
+pub wide_fault : fault_at wide 1 HeaderLine ≡ WordTooMany
 unfolding wide entry_of read too_long header_from header_in circuits_from circuit_in idle_line word_number word_past numeral_in word_from word_to line_end spelt is_space is_digit seek fault_at line_fault fault_from word_fault is_sign is_mark digits_to line_start after_lines next_line
 wide_fault = refl

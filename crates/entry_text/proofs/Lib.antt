@@ -1,9 +1,7 @@
 pub mod Places
 pub mod Digits
-pub mod Sayings
 pub mod Readings
 pub mod Headings
-pub mod FaultLaws
 pub mod LineLaws
 pub mod MessageLaws
 pub mod PairLaws

@@ -1,10 +1,11 @@
 -- What is wrong with a line that was not read. What a reader must believe.
 -- Assumes nothing.
-use Rattle.std.specs.Prelude.{ℕ, ◌+◌, ◌-◌, Bool, not, ◌&&◌, ◌||◌, cond, List, leb, eqb}
-use Rattle.std.proofs.Math.Option.{Option, none, some}
+use Rattle.std.specs.Prelude.{ℕ, ◌+◌, ◌-◌, Bool, not, ◌&&◌, ◌||◌, cond, List, leb, eqb, Option, None, Some}
 use Rattle.basics.specs.Tools.{seek}
 use Rattle.entry_text.specs.declared.faults.Fault.{Fault}
 use Rattle.entry_text.specs.declared.faults.Fault.TheVariants.{NumberMissing, Sign, Mark, NoNumber, TooLarge, WordTooMany}
+use Rattle.entry_text.specs.declared.Expected.{Expected}
+use Rattle.entry_text.specs.declared.Expected.TheVariants.{HeaderLine, CircuitLine, NoMoreCircuits, ShorterText}
 use Rattle.entry_text.specs.Entries.{byte, is_digit, line_end, word_from, word_past, word_number}
 use Rattle.entry_text.specs.Lines.{line_start}
 
@@ -31,8 +32,8 @@ fault_from s i e = word_fault s (word_from s i e) (word_past s i e)
 
 -- the fault of a word that was not read, or what is wrong after one that was
 abbrev pub or_fault : Option ℕ → Fault → Fault → Fault
-or_fault none fault rest = fault
-or_fault (some v) fault rest = rest
+or_fault None fault rest = fault
+or_fault (Some v) fault rest = rest
 
 -- what is wrong with the line from i to e, which was not read: the first of three words that is no number, the first below the limit and the others of two bytes, or else a word too many
 unfoldable pub line_fault : List ℕ → ℕ → ℕ → ℕ → Fault
@@ -41,6 +42,13 @@ line_fault s i e limit =
     (or_fault (word_number s (word_past s i e) e 65536) (fault_from s (word_past s i e) e)
     (or_fault (word_number s (word_past s (word_past s i e) e) e 65536) (fault_from s (word_past s (word_past s i e) e) e) WordTooMany))
 
--- what is wrong with the line numbered l: with 1 expected as `n w` or `n w grid`, of two bytes each, else as `number first last`, of four, two and two
-unfoldable pub fault_at : List ℕ → ℕ → ℕ → Fault
-fault_at s l expected = line_fault s (line_start s l) (line_end s (line_start s l)) (cond (eqb expected 1) 65536 4294967296)
+-- what the first number of a line has to stay below: two bytes in the header, four of a circuit
+abbrev pub first_limit : Expected → ℕ
+first_limit HeaderLine = 65536
+first_limit CircuitLine = 4294967296
+first_limit NoMoreCircuits = 4294967296
+first_limit ShorterText = 4294967296
+
+-- what is wrong with the line numbered l, by what was expected there
+unfoldable pub fault_at : List ℕ → ℕ → Expected → Fault
+fault_at s l expected = line_fault s (line_start s l) (line_end s (line_start s l)) (first_limit expected)

@@ -3,11 +3,8 @@
 
 ghost use Rattle.std.specs.Prelude.{◌≡◌, ◌+◌, ◌/◌, ◌≤◌, length, take};
 ghost use Rattle.entry_text.specs.Entered.{Enters};
-ghost use Rattle.entry_text.specs.Pair.{MadeOf};
-ghost use Rattle.records.specs.LineFiles.{line_bytes};
+ghost use Rattle.entry_text.specs.Pair.{header_bytes, MadeOf};
 ghost use Rattle.entry_text.specs.inner.Told.{Reads};
-
-use crate::lines::{CircuitLine, Opening};
 
 pub mod faults;
 mod lines;
@@ -15,105 +12,109 @@ pub mod messages;
 pub mod numbering;
 mod words;
 
-// What the first line that counts says: the grid is 1 where it does not name it.
-#[derive(Clone, Copy)]
+// What the first line that counts says: where it does not name the grid, that is grid 1. n and w are the words of the text.
+#[derive(Clone, Copy, Debug, PartialEq, Eq)]
 pub struct Header {
     pub n: u16,
     pub w: u16,
-    pub grid: u16,
-    pub named: bool,
+    pub grid: Option<u16>,
 }
 
-// The header and how many circuits, or the first line that is wrong, counted from 1, and what was expected there.
-#[derive(Clone, Copy)]
-pub enum Entry {
-    Entered { header: Header, circuits: usize },
-    Wrong { line: usize, expected: u32 },
+// The header and how many circuits.
+#[derive(Clone, Copy, Debug, PartialEq, Eq)]
+pub struct Entry {
+    pub header: Header,
+    pub circuits: usize,
 }
 
-// How many bytes line.rec, circuits.rec and the message have, or how many the message has where there are no files.
-#[derive(Clone, Copy)]
-pub enum Made {
-    Both {
-        line: usize,
-        circuits: usize,
-        message: usize,
-    },
-    Neither(usize),
+// What was expected where a text is wrong: `n w` or `n w grid`, `number first last`, no circuit too many, or a text that is not too long.
+#[derive(Clone, Copy, Debug, PartialEq, Eq)]
+pub enum Expected {
+    HeaderLine,
+    CircuitLine,
+    NoMoreCircuits,
+    ShorterText,
 }
 
-// How many circuits there are, or where reading stopped.
-#[derive(Clone, Copy)]
-enum Ending {
-    Whole(usize),
-    Stopped { line: usize, expected: u32 },
+// The first line that is wrong, counted from 1, and what was expected there.
+#[derive(Clone, Copy, Debug, PartialEq, Eq)]
+pub struct Wrong {
+    pub line: usize,
+    pub expected: Expected,
+}
+
+// How many bytes line.rec and circuits.rec have.
+#[derive(Clone, Copy, Debug, PartialEq, Eq)]
+pub struct Files {
+    pub line: usize,
+    pub circuits: usize,
+}
+
+// The files, if the text is right, and how many bytes the message has.
+#[derive(Clone, Copy, Debug, PartialEq, Eq)]
+pub struct Made {
+    pub files: Option<Files>,
+    pub message: usize,
 }
 
 // Writes the circuits of the lines from `start` on, of which the first is numbered `first`.
-fn read_circuits(text: &[u8], out: &mut [u8], start: usize, first: usize) -> Ending
+fn read_circuits(text: &[u8], out: &mut [u8], start: usize, first: usize) -> Result<usize, Wrong>
     requires { (length text.now ≤ 1048576) × (start ≤ length text.now + 1) × (first ≤ start + 1) }
     ensures { Reads text.now start first out.old result out.new }
 {
     let room = out.len() / 8;
     let mut i = start;
-    let mut line = first;
+    let mut number = first;
     let mut count = 0;
-    while i < text.len() {
-        let e = words::line_end(text, i);
-        if lines::idle_line(text, i, e) {
-            i = e + 1;
-            line += 1;
-            continue;
-        }
-        let CircuitLine::Says(c) = lines::circuit_in(text, i, e) else {
-            return Ending::Stopped { line, expected: 2 };
-        };
+    while let Ok(line) = lines::next_counted(text, i, number) {
+        let c = lines::circuit_in(text, line.start, line.end).ok_or(Wrong {
+            line: line.number,
+            expected: Expected::CircuitLine,
+        })?;
         if room <= count {
-            return Ending::Stopped { line, expected: 3 };
+            return Err(Wrong {
+                line: line.number,
+                expected: Expected::NoMoreCircuits,
+            });
         }
-        records::put_circuit(out, count, c);
+        records::put_record(out, count, c);
         count += 1;
-        i = e + 1;
-        line += 1;
+        i = line.end + 1;
+        number = line.number + 1;
     }
-    Ending::Whole(count)
+    Ok(count)
 }
 
 // Reads the header and the circuits of a text into circuit records at the start of `out`.
-pub fn enter(text: &[u8], out: &mut [u8]) -> Entry
+pub fn enter(text: &[u8], out: &mut [u8]) -> Result<Entry, Wrong>
     ensures { Enters text.now (length out.old / 8) out.old result out.new }
 {
     if 1048576 < text.len() {
-        return Entry::Wrong {
+        return Err(Wrong {
             line: 0,
-            expected: 4,
-        };
+            expected: Expected::ShorterText,
+        });
     }
-    let found = lines::find_header(text);
-    match found {
-        Opening::Missing(line) => Entry::Wrong { line, expected: 1 },
-        Opening::Headed { header, next, line } => {
-            let rest = read_circuits(text, out, next, line);
-            match rest {
-                Ending::Whole(circuits) => Entry::Entered { header, circuits },
-                Ending::Stopped { line, expected } => Entry::Wrong { line, expected },
-            }
-        }
-    }
+    let opening = lines::find_header(text)?;
+    let circuits = read_circuits(text, out, opening.next, opening.line)?;
+    Ok(Entry {
+        header: opening.header,
+        circuits,
+    })
 }
 
 // The bytes of line.rec. What is told: how many, 6 if the grid is named, else 4.
 fn write_line(header: Header, line: &mut [u8]) -> usize
     requires { length line.old ≡ 6 }
-    ensures { (take result line.new ≡ line_bytes header.n header.w header.grid header.named) × (result ≤ 6) }
+    ensures { (take result line.new ≡ header_bytes header) × (result ≤ 6) }
 {
     records::cells::put(line, 0, header.n);
     records::cells::put(line, 1, header.w);
-    records::cells::put(line, 2, header.grid);
-    if header.named {
-        return 6;
-    }
-    4
+    let Some(grid) = header.grid else {
+        return 4;
+    };
+    records::cells::put(line, 2, grid);
+    6
 }
 
 // Makes the bytes of line.rec and circuits.rec of a text, and what is said of it.
@@ -122,17 +123,18 @@ pub fn make_files(text: &[u8], line: &mut [u8], circuits: &mut [u8], message: &m
     ensures { MadeOf text.now result line.new circuits.new message.new }
 {
     let answer = enter(text, circuits);
-    let k = messages::write_message(text, answer, message);
-    match answer {
-        Entry::Entered { header, circuits } => {
-            let l = write_line(header, line);
-            Made::Both {
-                line: l,
-                circuits: 8 * circuits,
-                message: k,
-            }
-        }
-        Entry::Wrong { line, expected } => Made::Neither(k),
+    let message = messages::write_message(text, answer, message);
+    let Ok(entry) = answer else {
+        return Made {
+            files: None,
+            message,
+        };
+    };
+    let line = write_line(entry.header, line);
+    let circuits = 8 * entry.circuits;
+    Made {
+        files: Some(Files { line, circuits }),
+        message,
     }
 }
 

@@ -1,12 +1,14 @@
 // What is said of a text, at the start of a lent buffer.
+// It is written by crate `text`, since no clause says which bytes std's `write!` leaves in a slice.
 ghost use Rattle.std.specs.Prelude.{◌≤◌, length};
 ghost use Rattle.text.specs.Wrote.{Wrote};
 ghost use Rattle.entry_text.specs.Messages.{fault_words, expected_words, line_words, fault_message, full_message, wrong_message, count_message, message_by};
 
 use crate::faults::Fault;
-use crate::{Entry, faults};
+use crate::{Entry, Expected, Wrong, faults};
 
 // A fault in words. What is told: how many bytes.
+#[tactic(auto, unfolding(crate::specs::Messages::fault_words, text::specs::Words::words, text::specs::Words::codes))]
 fn write_fault(fault: Fault, out: &mut [u8]) -> usize
     requires { 18 ≤ length out.old }
     ensures { Wrote (fault_words fault) result out.old out.new }
@@ -22,17 +24,19 @@ fn write_fault(fault: Fault, out: &mut [u8]) -> usize
 }
 
 // What a line should have been. What is told: how many bytes.
-fn write_expected(expected: u32, out: &mut [u8]) -> usize
+#[tactic(auto, unfolding(crate::specs::Messages::expected_words, text::specs::Words::words, text::specs::Words::codes))]
+fn write_expected(expected: Expected, out: &mut [u8]) -> usize
     requires { 31 ≤ length out.old }
     ensures { Wrote (expected_words expected) result out.old out.new }
 {
-    if expected == 1 {
-        return text::write_words(b" (expected: n w, or n w grid)\n", out);
+    match expected {
+        Expected::HeaderLine => text::write_words(b" (expected: n w, or n w grid)\n", out),
+        _ => text::write_words(b" (expected: number first last)\n", out),
     }
-    text::write_words(b" (expected: number first last)\n", out)
 }
 
 // Which line. What is told: how many bytes.
+#[tactic(auto, unfolding(crate::specs::Messages::line_words, text::specs::Words::words, text::specs::Words::codes))]
 pub fn write_line_number(line: usize, out: &mut [u8]) -> usize
     requires { 27 ≤ length out.old }
     ensures { Wrote (line_words line) result out.old out.new }
@@ -41,17 +45,19 @@ pub fn write_line_number(line: usize, out: &mut [u8]) -> usize
 }
 
 // Which line was not read, its fault, and what it should have been. What is told: how many bytes.
-fn write_fault_line(text: &[u8], line: usize, expected: u32, out: &mut [u8]) -> usize
+#[tactic(auto, using(crate::proofs::MessageLaws::line_room, crate::proofs::MessageLaws::fault_room, crate::proofs::MessageLaws::expected_room, text::proofs::Writing::then_part), unfolding(crate::specs::Messages::fault_message))]
+fn write_fault_line(text: &[u8], wrong: Wrong, out: &mut [u8]) -> usize
     requires { 76 ≤ length out.old }
-    ensures { Wrote (fault_message text.now line expected) result out.old out.new }
+    ensures { Wrote (fault_message text.now wrong.line wrong.expected) result out.old out.new }
 {
-    let fault = faults::fault_at(text, line, expected);
-    let a = write_line_number(line, out);
+    let fault = faults::fault_at(text, wrong.line, wrong.expected);
+    let a = write_line_number(wrong.line, out);
     let b = a + write_fault(fault, &mut out[a..]);
-    b + write_expected(expected, &mut out[b..])
+    b + write_expected(wrong.expected, &mut out[b..])
 }
 
 // The line of a circuit too many. What is told: how many bytes.
+#[tactic(auto, using(crate::proofs::MessageLaws::line_room, text::proofs::Writing::then_part), unfolding(crate::specs::Messages::full_message, text::specs::Words::words, text::specs::Words::codes))]
 fn write_full(line: usize, out: &mut [u8]) -> usize
     requires { 76 ≤ length out.old }
     ensures { Wrote (full_message line) result out.old out.new }
@@ -61,20 +67,20 @@ fn write_full(line: usize, out: &mut [u8]) -> usize
 }
 
 // What is said of a text that is wrong. What is told: how many bytes.
-fn write_wrong(text: &[u8], line: usize, expected: u32, out: &mut [u8]) -> usize
+#[tactic(auto, unfolding(crate::specs::Messages::wrong_message, text::specs::Words::words, text::specs::Words::codes))]
+fn write_wrong(text: &[u8], wrong: Wrong, out: &mut [u8]) -> usize
     requires { 76 ≤ length out.old }
-    ensures { Wrote (wrong_message text.now line expected) result out.old out.new }
+    ensures { Wrote (wrong_message text.now wrong.line wrong.expected) result out.old out.new }
 {
-    if expected == 3 {
-        return write_full(line, out);
+    match wrong.expected {
+        Expected::NoMoreCircuits => write_full(wrong.line, out),
+        Expected::ShorterText => text::write_words(b"a text of more than 1048576 bytes\n", out),
+        _ => write_fault_line(text, wrong, out),
     }
-    if expected == 4 {
-        return text::write_words(b"a text of more than 1048576 bytes\n", out);
-    }
-    write_fault_line(text, line, expected, out)
 }
 
 // How many circuits there are. What is told: how many bytes.
+#[tactic(auto, unfolding(crate::specs::Messages::count_message, text::specs::Words::words, text::specs::Words::codes))]
 fn write_count(many: usize, out: &mut [u8]) -> usize
     requires { 76 ≤ length out.old }
     ensures { Wrote (count_message many) result out.old out.new }
@@ -83,12 +89,13 @@ fn write_count(many: usize, out: &mut [u8]) -> usize
 }
 
 // What is said of a text, by the answer for it. What is told: how many bytes.
-pub fn write_message(text: &[u8], answer: Entry, out: &mut [u8]) -> usize
+#[tactic(auto, unfolding(crate::specs::Messages::message_by))]
+pub fn write_message(text: &[u8], answer: Result<Entry, Wrong>, out: &mut [u8]) -> usize
     requires { 76 ≤ length out.old }
     ensures { Wrote (message_by text.now answer) result out.old out.new }
 {
     match answer {
-        Entry::Entered { header, circuits } => write_count(circuits, out),
-        Entry::Wrong { line, expected } => write_wrong(text, line, expected, out),
+        Ok(entry) => write_count(entry.circuits, out),
+        Err(wrong) => write_wrong(text, wrong, out),
     }
 }

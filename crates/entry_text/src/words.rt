@@ -1,33 +1,38 @@
-// Words and numbers in a text.
-ghost use Rattle.std.specs.Prelude.{◌≡◌, ◌-◌, ◌≤◌, ◌<◌, length};
-ghost use Rattle.entry_text.specs.Entries.{is_space, line_end, word_from, word_to, spelt, below, numeral_in, word_number, word_past};
-ghost use Rattle.entry_text.specs.inner.Told.{numeral_of};
-
-// A number, or that there is none.
-#[derive(Clone, Copy)]
-pub enum Numeral {
-    Value(u64),
-    Nothing,
-}
-
-// A byte as a number to count with.
-fn wide(b: u8) -> u64
-    ensures { (result ≡ b) × (result < 256) }
-{
-    b as u64
-}
+// Words and numbers in a text. A word goes by its place in the whole text, as in the definitions: slices of it would be no plainer.
+// What is told where there is none is the end, as in the definitions, since callers go on from there.
+ghost use Rattle.std.specs.Prelude.{ℕ, ◌≡◌, ◌-◌, ◌≤◌, ◌<◌, length, true, false, not, eqb};
+ghost use Rattle.entry_text.specs.Entries.{byte, is_space, is_digit, line_end, word_from, word_to, spelt, below, numeral_in, word_number, word_past};
 
 // Whether a byte stands between words.
+#[tactic(auto, unfolding(crate::specs::Entries::is_space))]
 fn is_space(b: u8) -> bool
     ensures { result ≡ is_space b }
 {
-    if b == 32 {
-        return true;
+    matches!(b, b' ' | b'\t' | b'\r')
+}
+
+// Whether a byte is a digit.
+#[tactic(auto, unfolding(crate::specs::Entries::is_digit))]
+pub fn is_digit(b: u8) -> bool
+    ensures { result ≡ is_digit b }
+{
+    matches!(b, b'0'..=b'9')
+}
+
+// The first place from `start` on, before e, whose byte passes, or e.
+pub fn first_place<F: Fn(u8) -> bool>(text: &[u8], start: usize, e: usize, passes: F) -> usize
+    requires within { (start ≤ e) × (e ≤ length text.now) }
+    requires calls { F.IsAlwaysCallable passes }
+    ensures bounds { (start ≤ result) × (result ≤ e) }
+    ensures before { (k : ℕ) → start ≤ k → k < result → F.post passes (byte text.now k) false }
+    ensures here { result < e → F.post passes (byte text.now result) true }
+{
+    for i in start..e {
+        if passes(text[i]) {
+            return i;
+        }
     }
-    if b == 9 {
-        return true;
-    }
-    b == 13
+    e
 }
 
 // Where the line that starts at `start` ends.
@@ -35,14 +40,14 @@ pub fn line_end(text: &[u8], start: usize) -> usize
     requires { start ≤ length text.now }
     ensures { (result ≡ line_end text.now start) × (start ≤ result) × (result ≤ length text.now) }
 {
-    let mut i = start;
-    while i < text.len() {
-        if text[i] == 10 {
-            return i;
-        }
-        i += 1;
-    }
-    i
+    first_place(
+        text,
+        start,
+        text.len(),
+        |b: u8|
+            ensures { result ≡ eqb b 10 }
+        { b == b'\n' },
+    )
 }
 
 // Where the first word from `start` on begins, or e.
@@ -50,14 +55,14 @@ pub fn word_from(text: &[u8], start: usize, e: usize) -> usize
     requires { (start ≤ e) × (e ≤ length text.now) }
     ensures { (result ≡ word_from text.now start e) × (start ≤ result) × (result ≤ e) }
 {
-    let mut i = start;
-    while i < e {
-        if !is_space(text[i]) {
-            return i;
-        }
-        i += 1;
-    }
-    i
+    first_place(
+        text,
+        start,
+        e,
+        |b: u8|
+            ensures { result ≡ not (is_space b) }
+        { !is_space(b) },
+    )
 }
 
 // Where the word that begins at `start` ends.
@@ -65,55 +70,44 @@ pub fn word_to(text: &[u8], start: usize, e: usize) -> usize
     requires { (start ≤ e) × (e ≤ length text.now) }
     ensures { (result ≡ word_to text.now start e) × (start ≤ result) × (result ≤ e) }
 {
-    let mut i = start;
-    while i < e {
-        if is_space(text[i]) {
-            return i;
-        }
-        i += 1;
-    }
-    i
+    first_place(text, start, e, is_space)
 }
 
 // The number that the bytes from `start` to before e spell, if they are digits and it is below the limit.
-fn spell(text: &[u8], start: usize, e: usize, limit: u64) -> Numeral
+fn spell(text: &[u8], start: usize, e: usize, limit: u64) -> Option<u64>
     requires { (start ≤ e) × (e ≤ length text.now) × (1 ≤ limit) × (limit ≤ 4294967296) }
-    ensures { result ≡ numeral_of (below limit (spelt text.now start (e - start) 0)) }
+    ensures { result ≡ below limit (spelt text.now start (e - start) 0) }
 {
-    let mut i = start;
-    let mut v = 0u64;
-    while i < e {
-        let d = wide(text[i]);
-        if d < 48 {
-            return Numeral::Nothing;
+    let mut v = 0;
+    for i in start..e {
+        if !is_digit(text[i]) {
+            return None;
         }
-        if 57 < d {
-            return Numeral::Nothing;
-        }
-        v = 10 * v + (d - 48);
+        v = 10 * v + u64::from(text[i] - b'0');
         if limit <= v {
-            return Numeral::Nothing;
+            return None;
         }
-        i += 1;
     }
-    Numeral::Value(v)
+    Some(v)
 }
 
 // The number from `start` to before e: at least one digit, digits only, below the limit.
-fn numeral_in(text: &[u8], start: usize, e: usize, limit: u64) -> Numeral
+#[tactic(auto, unfolding(crate::specs::Entries::numeral_in))]
+fn numeral_in(text: &[u8], start: usize, e: usize, limit: u64) -> Option<u64>
     requires { (start ≤ e) × (e ≤ length text.now) × (1 ≤ limit) × (limit ≤ 4294967296) }
-    ensures { result ≡ numeral_of (numeral_in text.now start e limit) }
+    ensures { result ≡ numeral_in text.now start e limit }
 {
     if e <= start {
-        return Numeral::Nothing;
+        return None;
     }
     spell(text, start, e, limit)
 }
 
 // The first word from `start` on, before e, as a number below the limit.
-pub fn word_number(text: &[u8], start: usize, e: usize, limit: u64) -> Numeral
+#[tactic(auto, unfolding(crate::specs::Entries::word_number))]
+pub fn word_number(text: &[u8], start: usize, e: usize, limit: u64) -> Option<u64>
     requires { (start ≤ e) × (e ≤ length text.now) × (1 ≤ limit) × (limit ≤ 4294967296) }
-    ensures { result ≡ numeral_of (word_number text.now start e limit) }
+    ensures { result ≡ word_number text.now start e limit }
 {
     let a = word_from(text, start, e);
     let b = word_to(text, a, e);
@@ -121,6 +115,7 @@ pub fn word_number(text: &[u8], start: usize, e: usize, limit: u64) -> Numeral
 }
 
 // Where that word ends.
+#[tactic(auto, unfolding(crate::specs::Entries::word_past))]
 pub fn word_past(text: &[u8], start: usize, e: usize) -> usize
     requires { (start ≤ e) × (e ≤ length text.now) }
     ensures { (result ≡ word_past text.now start e) × (start ≤ result) × (result ≤ e) }

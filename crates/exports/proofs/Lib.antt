@@ -1,4 +1,4 @@
-pub mod Named
+pub mod Numbers
 pub mod Told
 pub mod ToldMending
 pub mod ToldFindings

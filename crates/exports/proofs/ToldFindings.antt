@@ -2,35 +2,31 @@
 use Prim.Native.Nat.{ℕ, zero, suc, ◌≤◌}
 use mathlib.Core.Path.{◌≡◌, refl, ap, sym, ◌∙◌}
 use mathlib.Core.Logic.{⊎_elim}
-use mathlib.Core.List.{List, [], ◌∷◌}
+use mathlib.Core.List.{List}
 use native.Mathlib.Omega.{arith}
 use lib.ListN.{length}
+use Rattle.std.specs.Prelude.{Result, Ok, Err}
 use Rattle.basics.proofs.Bools.{by_eq}
 use Rattle.records.specs.Records.{circuits_of}
 use Rattle.records.specs.declared.Circuit.{Circuit}
 use Rattle.records.specs.declared.FibreRecord.{FibreRecord}
 use Rattle.records.specs.declared.AssignmentRecord.{AssignmentRecord}
 use Rattle.records.specs.declared.Line.{Line}
-use Rattle.refusals.specs.Given.{Given}
-use Rattle.refusals.specs.Refusals.{Refusal}
-use Rattle.checker.specs.Checked.{assignments_of, checked, check_table, fibres_of}
+use Rattle.refusals.specs.Refusals.{number_of}
+use Rattle.refusals.specs.declared.Refusal.{Refusal}
+use Rattle.checker.specs.Checked.{assignments_of, checked, fibres_of}
 use Rattle.checker.specs.Rules.{Breach, Rule, assignment_rules, fibre_rules}
 use Rattle.checker.specs.Seen.{Seen}
 use Rattle.checker.specs.Sound.{FirstBreach, FirstFault}
 use Rattle.checker.specs.declared.Finding.{Finding}
-use Rattle.checker.specs.declared.Finding.TheVariants.{Yes, No, Refused}
+use Rattle.checker.specs.declared.Finding.TheVariants.{Yes, No}
 use Rattle.checker.proofs.Answers.{seen}
 use Rattle.checker.proofs.Faults.{Rising, rising_numbered}
 use Rattle.checker.proofs.First.{assignments_rise, fibres_rise}
-use Rattle.checker.proofs.Tabled.{check_in_order}
 use Rattle.exports.specs.declared.check.CheckAnswer.{CheckAnswer}
-use Rattle.exports.specs.CheckExported.{CheckExported, flat_finding, told_finding}
-use Rattle.exports.proofs.Named.{refusal_named}
-
--- no refusal of a check has number 0
-check_named : (line : Line) (s : List ℕ) (fibres assigns : ℕ) (r : Refusal) → Given (check_table line s fibres assigns) r → 1 ≤ r.number
-check_named line s fibres assigns r g =
-    refusal_named (1 ∷ 2 ∷ 3 ∷ 12 ∷ 4 ∷ 5 ∷ 6 ∷ 7 ∷ 16 ∷ 16 ∷ []) (check_table line s fibres assigns) (check_in_order line s fibres assigns) refl r g
+use Rattle.exports.specs.CheckExported.{CheckExported, flat_finding, told_finding, told_finding_by}
+use Rattle.exports.specs.Numbers.{refusal_numbered}
+use Rattle.exports.proofs.Numbers.{reason_named, refusal_told}
 
 -- of places whose rules have numbers from 1 on, no fault has number 0
 fault_named : (rules : ℕ → List Rule) (m : ℕ) (b : Breach) → ((i : ℕ) → Rising 0 (rules i)) → FirstFault rules m b → 1 ≤ b.rule
@@ -47,29 +43,27 @@ breach_named line cs fs gs b =
     (λ f. fault_named (assignment_rules line.wavelengths cs fs gs) (length gs) b (assignments_rise line.wavelengths cs fs gs) f.fault))
 
 -- a no whose rule is not 0 is told as it was
-told_no : (rule place : ℕ) → 1 ≤ rule → told_finding (flat_finding (No rule place)) ≡ No rule place
+told_no : (rule place : ℕ) → 1 ≤ rule → told_finding (flat_finding (Ok (No rule place))) ≡ Ok (No rule place)
 told_no zero place e = absurd (omega arith)
 told_no (suc k) place e = refl
 
--- so is a refusal whose number is not 0
-told_refused : (number place end : ℕ) → 1 ≤ number → told_finding (flat_finding (Refused number place end)) ≡ Refused number place end
-told_refused zero place end e = absurd (omega arith)
-told_refused (suc k) place end e = refl
+-- numbers of a refusal are told as one
+by_number : (number rule : ℕ) (r : CheckAnswer) → 1 ≤ number → told_finding_by number rule r ≡ Err (refusal_numbered number r.place r.end)
+by_number zero rule r e = absurd (omega arith)
+by_number (suc k) rule r e = refl
 
 module _ (line : Line) (s fibres assigns : List ℕ) where
   -- what `check_plan` finds is told as it was
-  told_back : (f : Finding) → f ≡ checked line s fibres assigns → told_finding (flat_finding f) ≡ f
-  told_back (Yes total floor) e = refl
-  told_back (No rule place) e =
+  told_back : (f : Result Finding Refusal) → f ≡ checked line s fibres assigns → told_finding (flat_finding f) ≡ f
+  told_back (Ok (Yes total floor)) e = refl
+  told_back (Ok (No rule place)) e =
       let b : Breach = record { rule = rule; place = place } in
-      let said = (seen line s fibres assigns (No rule place) e).no_says b refl in
+      let said = (seen line s fibres assigns (Ok (No rule place)) e).no_says b refl in
       told_no rule place (breach_named line (circuits_of s) (fibres_of fibres) (assignments_of assigns) b said.first)
-  told_back (Refused number place end) e =
-      let r : Refusal = record { number = number; place = place; end = end } in
-      told_refused number place end (check_named line s (length fibres) (length assigns) r ((seen line s fibres assigns (Refused number place end) e).as_tabled r refl))
+  told_back (Err r) e = by_number (number_of r.reason) 0 (flat_finding (Err r)) (reason_named r.reason) ∙ ap (λ (x : Refusal). Err x) (refusal_told r)
 
   -- a finding of `check_plan`, flattened, is what is promised
-  pub check_exported : (f : Finding) (r : CheckAnswer) → r ≡ flat_finding f → f ≡ checked line s fibres assigns → CheckExported line s fibres assigns r
+  pub check_exported : (f : Result Finding Refusal) (r : CheckAnswer) → r ≡ flat_finding f → f ≡ checked line s fibres assigns → CheckExported line s fibres assigns r
   check_exported f r e q =
       let back : told_finding r ≡ f = ap told_finding e ∙ told_back f q in
       record {

@@ -1,42 +1,38 @@
 -- Nothing is lost in the plain struct of a mending: the answer of `mend` is told from it as it was, so no refusal is taken for a register that was mended. Assumes nothing.
 use Prim.Native.Nat.{ℕ, zero, suc, ◌≤◌}
 use mathlib.Core.Path.{◌≡◌, refl, ap, subst, sym, ◌∙◌}
-use mathlib.Core.List.{List, [], ◌∷◌}
+use mathlib.Core.List.{List}
 use native.Mathlib.Omega.{arith}
+use Rattle.std.specs.Prelude.{Result, Ok, Err}
 use Rattle.records.specs.declared.Line.{Line}
-use Rattle.refusals.specs.Refusals.{Refusal}
-use Rattle.mender.specs.declared.Answer.{Answer}
-use Rattle.mender.specs.declared.Answer.TheVariants.{Mended, Refused}
+use Rattle.refusals.specs.Refusals.{number_of, end_told}
+use Rattle.refusals.specs.declared.Refusal.{Refusal}
+use Rattle.mender.specs.declared.Mended.{Mended}
 use Rattle.mender.specs.Report.{Lent}
 use Rattle.mender.specs.Outcome.{Outcome}
 use Rattle.mender.specs.Seen.{Seen}
-use Rattle.mender.specs.Table.{mend_table}
 use Rattle.mender.proofs.Answers.{seen}
-use Rattle.mender.proofs.Leaves.{mend_in_order}
 use Rattle.mender.proofs.Pinned.{outcome_pins}
 use Rattle.exports.specs.declared.mend.MendAnswer.{MendAnswer}
-use Rattle.exports.specs.MendExported.{flat_mend, told_mend, MendExported}
-use Rattle.exports.proofs.Named.{refusal_named}
+use Rattle.exports.specs.MendExported.{flat_mend, told_mend, told_mend_by, MendExported}
+use Rattle.exports.specs.Numbers.{refusal_numbered}
+use Rattle.exports.proofs.Numbers.{reason_named, refusal_told}
 
--- a refusal whose number is not 0 is told as it was
-told_refused : (number place end : ℕ) → 1 ≤ number → told_mend (flat_mend (Refused number place end)) ≡ Refused number place end
-told_refused zero place end e = absurd (omega arith)
-told_refused (suc k) place end e = refl
+-- numbers of a refusal are told as one
+by_number : (number place end : ℕ) (m : Mended) → 1 ≤ number → told_mend_by number place end m ≡ Err (refusal_numbered number place end)
+by_number zero place end m e = absurd (omega arith)
+by_number (suc k) place end m e = refl
+
+-- an answer is told as it was
+told_back : (a : Result Mended Refusal) → told_mend (flat_mend a) ≡ a
+told_back (Ok m) = refl
+told_back (Err r) = by_number (number_of r.reason) r.place (end_told r.end) _ (reason_named r.reason) ∙ ap (λ (x : Refusal). Err x) (refusal_told r)
 
 module _ (line : Line) (s : List ℕ) (many : ℕ) (before after : Lent) where
-  -- the answer of an outcome is told as it was
-  told_back : (a : Answer) → Outcome line s many before after a → told_mend (flat_mend a) ≡ a
-  told_back (Mended counts lines) o = refl
-  told_back (Refused number place end) o =
-      let r : Refusal = record { number = number; place = place; end = end } in
-      told_refused number place end
-      (refusal_named (1 ∷ 2 ∷ 3 ∷ 12 ∷ 4 ∷ 5 ∷ 6 ∷ 7 ∷ 8 ∷ 10 ∷ 16 ∷ 20 ∷ 23 ∷ []) (mend_table line s many before) (mend_in_order line s many before) refl r
-      ((seen line s many before after (Refused number place end) o).demand_1.as_tabled r refl))
-
   -- an outcome of `mend`, its answer flattened, is what is promised
-  pub mend_exported : (a : Answer) (r : MendAnswer) → r ≡ flat_mend a → Outcome line s many before after a → MendExported (Outcome line s many before after) r
+  pub mend_exported : (a : Result Mended Refusal) (r : MendAnswer) → r ≡ flat_mend a → Outcome line s many before after a → MendExported (Outcome line s many before after) r
   mend_exported a r e o =
-      let back : told_mend r ≡ a = ap told_mend e ∙ told_back a o in
+      let back : told_mend r ≡ a = ap told_mend e ∙ told_back a in
       record {
         outcome = subst (Outcome line s many before after) (sym back) o;
         plain = e ∙ ap flat_mend (sym back);

@@ -1,4 +1,5 @@
 // Additions for callers in C and Rust.
+// The C interface has no struct of references: what is lent goes one by one.
 ghost use Rattle.register.specs.Areas.{areas};
 ghost use Rattle.adder.specs.Outcome.{Outcome};
 ghost use Rattle.exports.specs.Exported.{line_of, Exported};
@@ -33,6 +34,6 @@ pub extern "C" fn fibre_add(
         fibres: old_fibres,
         assignments: old_assignments,
     };
-    let a = adder::add(line, circuits, added, named, fibres, assignments, work);
-    crate::flattened(a)
+    let answer = adder::add(line, circuits, added, named, fibres, assignments, work);
+    PlanAnswer::from(answer)
 }

@@ -1,14 +1,16 @@
-// The check for callers in C and Rust: the finding's enum as a plain struct of numbers.
+// The check for callers in C and Rust: the finding as a plain struct of numbers.
+// The C interface has no `Option`, `Result` or struct of references: what is lent goes one by one, and a number that has no meaning is 0.
 ghost use Rattle.std.specs.Prelude.{◌≡◌};
 ghost use Rattle.exports.specs.Exported.{line_of};
 ghost use Rattle.exports.specs.CheckExported.{flat_finding, CheckExported};
 
 use checker::Finding;
 use records::Line;
+use refusals::Refusal;
 
 // Yes where `refusal` and `rule` are 0, with length and floor; no where only `refusal` is, with the first broken rule and its place; else the refusal's number and place, which end is wrong, and zeros.
 #[repr(C)]
-#[derive(Clone, Copy)]
+#[derive(Clone, Copy, Debug, PartialEq, Eq)]
 pub struct CheckAnswer {
     pub refusal: u32,
     pub place: u32,
@@ -18,35 +20,36 @@ pub struct CheckAnswer {
     pub floor: usize,
 }
 
-// A finding as a plain struct.
-fn flattened(f: Finding) -> CheckAnswer
-    ensures { result ≡ flat_finding f }
-{
-    match f {
-        Finding::Yes { length, floor } => CheckAnswer {
-            refusal: 0,
-            place: 0,
-            end: 0,
-            rule: 0,
-            length,
-            floor,
-        },
-        Finding::No { rule, place } => CheckAnswer {
-            refusal: 0,
-            place,
-            end: 0,
-            rule,
-            length: 0,
-            floor: 0,
-        },
-        Finding::Refused { number, place, end } => CheckAnswer {
-            refusal: number,
-            place,
-            end,
-            rule: 0,
-            length: 0,
-            floor: 0,
-        },
+impl From<Result<Finding, Refusal>> for CheckAnswer {
+    ghost from_gives = { λ finding flattened. flattened ≡ flat_finding finding };
+
+    fn from(finding: Result<Finding, Refusal>) -> CheckAnswer {
+        match finding {
+            Ok(Finding::Yes { length, floor }) => CheckAnswer {
+                refusal: 0,
+                place: 0,
+                end: 0,
+                rule: 0,
+                length,
+                floor,
+            },
+            Ok(Finding::No { rule, place }) => CheckAnswer {
+                refusal: 0,
+                place,
+                end: 0,
+                rule,
+                length: 0,
+                floor: 0,
+            },
+            Err(r) => CheckAnswer {
+                refusal: u32::from(r.reason),
+                place: r.place,
+                end: r.end_told(),
+                rule: 0,
+                length: 0,
+                floor: 0,
+            },
+        }
     }
 }
 
@@ -67,6 +70,6 @@ pub extern "C" fn fibre_check(
         wavelengths,
         grid,
     };
-    let f = checker::check_plan(line, circuits, fibres, assignments);
-    flattened(f)
+    let finding = checker::check_plan(line, circuits, fibres, assignments);
+    CheckAnswer::from(finding)
 }

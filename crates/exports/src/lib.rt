@@ -1,4 +1,5 @@
-// The planner, additions, mending and the check for callers in C and Rust: the answer's enum as a plain struct of numbers.
+// The planner, additions, mending and the check for callers in C and Rust: the answer as a plain struct of numbers.
+// The C interface has no `Option`, `Result` or struct of references: what is lent goes one by one, and a number that has no meaning is 0.
 #![tactic(auto)]
 
 pub mod add;
@@ -10,12 +11,13 @@ ghost use Rattle.register.specs.Areas.{areas};
 ghost use Rattle.planner.specs.Outcome.{Outcome};
 ghost use Rattle.exports.specs.Exported.{flat, line_of, Exported};
 
-use planner::Answer;
 use records::Line;
+use refusals::Refusal;
+use register::Counts;
 
 // Planned where `refusal` is 0, with the three numbers; else the refusal's number and place, which end is wrong, and zeros.
 #[repr(C)]
-#[derive(Clone, Copy)]
+#[derive(Clone, Copy, Debug, PartialEq, Eq)]
 pub struct PlanAnswer {
     pub refusal: u32,
     pub place: u32,
@@ -25,27 +27,28 @@ pub struct PlanAnswer {
     pub floor: usize,
 }
 
-// An answer as a plain struct.
-fn flattened(a: Answer) -> PlanAnswer
-    ensures { result ≡ flat a }
-{
-    match a {
-        Answer::Planned(c) => PlanAnswer {
-            refusal: 0,
-            place: 0,
-            end: 0,
-            fibres: c.fibres,
-            total: c.total,
-            floor: c.floor,
-        },
-        Answer::Refused { number, place, end } => PlanAnswer {
-            refusal: number,
-            place,
-            end,
-            fibres: 0,
-            total: 0,
-            floor: 0,
-        },
+impl From<Result<Counts, Refusal>> for PlanAnswer {
+    ghost from_gives = { λ answer flattened. flattened ≡ flat answer };
+
+    fn from(answer: Result<Counts, Refusal>) -> PlanAnswer {
+        match answer {
+            Ok(c) => PlanAnswer {
+                refusal: 0,
+                place: 0,
+                end: 0,
+                fibres: c.fibres,
+                total: c.total,
+                floor: c.floor,
+            },
+            Err(r) => PlanAnswer {
+                refusal: u32::from(r.reason),
+                place: r.place,
+                end: r.end_told(),
+                fibres: 0,
+                total: 0,
+                floor: 0,
+            },
+        }
     }
 }
 
@@ -67,6 +70,6 @@ pub extern "C" fn fibre_plan(
         wavelengths,
         grid,
     };
-    let a = planner::plan(line, circuits, fibres, assignments, work);
-    flattened(a)
+    let answer = planner::plan(line, circuits, fibres, assignments, work);
+    PlanAnswer::from(answer)
 }

@@ -1,16 +1,18 @@
-// Mending for callers in C and Rust: the answer's enum as a plain struct of numbers.
+// Mending for callers in C and Rust: the answer as a plain struct of numbers.
+// The C interface has no `Option`, `Result` or struct of references: what is lent goes one by one, and a number that has no meaning is 0.
 ghost use Rattle.std.specs.Prelude.{◌≡◌};
 ghost use Rattle.mender.specs.Report.{lent_areas};
 ghost use Rattle.mender.specs.Outcome.{Outcome};
 ghost use Rattle.exports.specs.Exported.{line_of};
 ghost use Rattle.exports.specs.MendExported.{flat_mend, MendExported};
 
-use mender::Answer;
+use mender::Mended;
 use records::Line;
+use refusals::Refusal;
 
 // Mended where `refusal` is 0, with the three numbers and how many lines the report has; else the refusal's number and place, which end is wrong, and zeros.
 #[repr(C)]
-#[derive(Clone, Copy)]
+#[derive(Clone, Copy, Debug, PartialEq, Eq)]
 pub struct MendAnswer {
     pub refusal: u32,
     pub place: u32,
@@ -21,29 +23,30 @@ pub struct MendAnswer {
     pub lines: usize,
 }
 
-// An answer as a plain struct.
-fn flattened(a: Answer) -> MendAnswer
-    ensures { result ≡ flat_mend a }
-{
-    match a {
-        Answer::Mended { counts, lines } => MendAnswer {
-            refusal: 0,
-            place: 0,
-            end: 0,
-            fibres: counts.fibres,
-            total: counts.total,
-            floor: counts.floor,
-            lines,
-        },
-        Answer::Refused { number, place, end } => MendAnswer {
-            refusal: number,
-            place,
-            end,
-            fibres: 0,
-            total: 0,
-            floor: 0,
-            lines: 0,
-        },
+impl From<Result<Mended, Refusal>> for MendAnswer {
+    ghost from_gives = { λ answer flattened. flattened ≡ flat_mend answer };
+
+    fn from(answer: Result<Mended, Refusal>) -> MendAnswer {
+        match answer {
+            Ok(Mended { counts, lines }) => MendAnswer {
+                refusal: 0,
+                place: 0,
+                end: 0,
+                fibres: counts.fibres,
+                total: counts.total,
+                floor: counts.floor,
+                lines,
+            },
+            Err(r) => MendAnswer {
+                refusal: u32::from(r.reason),
+                place: r.place,
+                end: r.end_told(),
+                fibres: 0,
+                total: 0,
+                floor: 0,
+                lines: 0,
+            },
+        }
     }
 }
 
@@ -67,7 +70,7 @@ pub extern "C" fn fibre_mend(
         wavelengths,
         grid,
     };
-    let a = mender::mend(
+    let answer = mender::mend(
         line,
         circuits,
         old_fibres,
@@ -76,5 +79,5 @@ pub extern "C" fn fibre_mend(
         report,
         work,
     );
-    flattened(a)
+    MendAnswer::from(answer)
 }

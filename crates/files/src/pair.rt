@@ -1,247 +1,197 @@
 // Files that belong together, replaced by one writer so that the folder at no moment holds all of them with some old and some new. The last of them is the one
 // without which the others are refused: it is moved away before the first is replaced, and comes back last.
-ghost use Rattle.std.specs.Prelude.{◌≡◌, length};
-
-use crate::Moved;
 use std::fs::{OpenFile, OpenOptions};
-use std::io::{ErrorKind, Write};
+use std::io::{ErrorKind, Print, Write};
 use std::rt::Files;
 use std::{fs, io};
 
-// What became of the files: they are new, or they are as they were since the drafts could not be written, or a file could not take its name, and then the last may be
-// missing.
-#[derive(Clone, Copy)]
-pub enum Replacement {
-    Done,
+// Why the files are not new: the drafts could not be written, and all is as it was, or a file could not take its name, and then the last may be missing.
+#[derive(Clone, Copy, Debug, PartialEq, Eq)]
+pub enum ReplaceError {
     NotWritten,
     NotNamed,
 }
 
-// Whether an old last file was moved away, or there was none, or it cannot be moved.
-#[derive(Clone, Copy)]
-enum Away {
-    Moved,
-    Missing,
-    Stuck,
+// A file's name, that of its draft, and the bytes that it is to have.
+#[derive(Clone, Copy, Debug, PartialEq, Eq)]
+struct Draft<'a> {
+    name: &'a str,
+    draft: &'a str,
+    bytes: &'a [u8],
 }
 
-// Writes the bytes of a draft, which reach the disk.
-fn write_whole<F: Write + OpenFile>(file: &mut F, bytes: &[u8]) -> bool {
-    let put = crate::write_all(file, bytes);
-    let kept = file.sync_all();
-    let Moved::Bytes(_) = put else {
-        return false;
-    };
-    kept.is_ok()
-}
-
-// Writes a draft whole, in a file of its own: what stood under its name, a link too, is gone first.
-fn write_draft<R: Files>(rt: &R, name: &str, bytes: &[u8]) -> bool {
-    remove(rt, name);
-    match OpenOptions::new()
-        .write(true)
-        .create_new(true)
-        .open(rt, name)
-    {
-        Ok(mut file) => write_whole(&mut file, bytes),
-        Err(_) => false,
-    }
-}
-
-// Removes a file, if it is there.
-fn remove<R: Files>(rt: &R, name: &str) -> bool {
-    fs::remove_file(rt, name).is_ok()
-}
-
-// A file takes another name.
-fn rename<R: Files>(rt: &R, from: &str, to: &str) -> bool {
-    fs::rename(rt, from, to).is_ok()
-}
-
-// Writes two drafts.
-fn write_both<R: Files>(
-    rt: &R,
-    first_new: &str,
-    first: &[u8],
-    last_new: &str,
-    last: &[u8],
-) -> bool {
-    write_draft(rt, first_new, first) && write_draft(rt, last_new, last)
-}
-
-// Removes the drafts.
-fn no_drafts<R: Files>(rt: &R, drafts: &[&str], last_new: &str) {
-    remove(rt, last_new);
-    for draft in drafts {
-        remove(rt, draft);
-    }
-}
-
-// Moves the old last file away, if there is one. What stands under the other name goes first: were it the same file, a move would do nothing.
-fn last_away<R: Files>(rt: &R, last: &str, last_old: &str) -> Away {
-    remove(rt, last_old);
-    match fs::rename(rt, last, last_old) {
-        Ok(()) => Away::Moved,
-        Err(e) => away_of(e),
-    }
-}
-
-// What it means that the last file could not be moved.
-fn away_of(e: io::Error) -> Away {
-    if e.kind() == ErrorKind::NotFound {
-        return Away::Missing;
-    }
-    Away::Stuck
+// The files before the last, in the order in which they take their names, the last, and the name of the old last file meanwhile.
+#[derive(Clone, Copy, Debug, PartialEq, Eq)]
+struct Together<'a> {
+    others: &'a [Draft<'a>],
+    last: Draft<'a>,
+    last_old: &'a str,
 }
 
 // The folder's names as they are now reach the disk before any later change does.
 fn names_to_disk<R: Files>(rt: &R) {
     if let Ok(folder) = fs::open(rt, ".") {
-        folder.sync_all().is_ok();
+        let _ = folder.sync_all();
     }
 }
 
-// The new files before the last take their names, one after the other. What is told: how many did.
-fn name_others<R: Files>(rt: &R, names: &[&str], drafts: &[&str]) -> usize
-    requires { length drafts.now ≡ length names.now }
-{
-    let mut i = 0;
-    while i < names.len() {
-        if !rename(rt, drafts[i], names[i]) {
-            return i;
+impl Draft<'_> {
+    // Writes the draft whole, in a file of its own, which reaches the disk: what stood under its name, a link too, is gone first.
+    fn write<R: Files>(&self, rt: &R) -> io::Result<()> {
+        self.remove(rt);
+        let mut file = OpenOptions::new()
+            .write(true)
+            .create_new(true)
+            .open(rt, self.draft)?;
+        let put = crate::write_all(&mut file, self.bytes);
+        let kept = file.sync_all();
+        put?;
+        kept
+    }
+
+    // Removes the draft, if it is there.
+    fn remove<R: Files>(&self, rt: &R) {
+        let _ = fs::remove_file(rt, self.draft);
+    }
+
+    // The draft takes the file's name.
+    fn take_name<R: Files>(&self, rt: &R) -> io::Result<()> {
+        fs::rename(rt, self.draft, self.name)
+    }
+}
+
+impl Together<'_> {
+    // Writes the drafts.
+    fn write<R: Files>(&self, rt: &R) -> io::Result<()> {
+        for draft in self.others {
+            draft.write(rt)?;
         }
-        i += 1;
+        self.last.write(rt)
     }
-    i
-}
 
-// With no last file, and the old one moved away or not: the new files take their names, the last one at the end. Where the first cannot, the old last file comes back if it
-// was moved away, and the drafts go; where a later one cannot, its draft and those after it stay, since the names of those before it are taken.
-fn name_all<R: Files>(
-    rt: &R,
-    moved: bool,
-    names: &[&str],
-    drafts: &[&str],
-    last: &str,
-    last_new: &str,
-    last_old: &str,
-) -> bool
-    requires { length drafts.now ≡ length names.now }
-{
-    names_to_disk(rt);
-    let named = name_others(rt, names, drafts);
-    if named < names.len() {
-        if named == 0 {
-            if moved {
-                rename(rt, last_old, last);
+    // Removes the drafts.
+    fn no_drafts<R: Files>(&self, rt: &R) {
+        self.last.remove(rt);
+        for draft in self.others {
+            draft.remove(rt);
+        }
+    }
+
+    // Moves the old last file away. What is told: whether there was one. What stands under the other name goes first: were it the same file, a move would do nothing.
+    fn last_away<R: Files>(&self, rt: &R) -> io::Result<bool> {
+        let _ = fs::remove_file(rt, self.last_old);
+        match fs::rename(rt, self.last.name, self.last_old) {
+            Ok(()) => Ok(true),
+            Err(e) if e.kind() == ErrorKind::NotFound => Ok(false),
+            Err(e) => Err(e),
+        }
+    }
+
+    // The new files before the last take their names, one after the other. What is told: which is the first that cannot.
+    fn name_others<R: Files>(&self, rt: &R) -> Option<usize> {
+        self.others
+            .iter()
+            .position(|draft| draft.take_name(rt).is_err())
+    }
+
+    // With no last file, and the old one moved away or not: the new files take their names, the last one at the end. Where the first cannot, the old last file comes back if it
+    // was moved away, and the drafts go; where a later one cannot, its draft and those after it stay, since the names of those before it are taken.
+    fn name_all<R: Files>(&self, rt: &R, moved: bool) -> Result<(), ReplaceError> {
+        names_to_disk(rt);
+        if let Some(unnamed) = self.name_others(rt) {
+            if unnamed == 0 {
+                if moved {
+                    let _ = fs::rename(rt, self.last_old, self.last.name);
+                }
+                self.no_drafts(rt);
             }
-            no_drafts(rt, drafts, last_new);
+            return Err(ReplaceError::NotNamed);
         }
-        return false;
+        names_to_disk(rt);
+        if self.last.take_name(rt).is_err() {
+            return Err(ReplaceError::NotNamed);
+        }
+        names_to_disk(rt);
+        let _ = fs::remove_file(rt, self.last_old);
+        Ok(())
     }
-    names_to_disk(rt);
-    if !rename(rt, last_new, last) {
-        return false;
-    }
-    names_to_disk(rt);
-    remove(rt, last_old);
-    true
-}
 
-// The new files take their names; in between there is no last file.
-fn take_names<R: Files>(
-    rt: &R,
-    names: &[&str],
-    drafts: &[&str],
-    last: &str,
-    last_new: &str,
-    last_old: &str,
-) -> bool
-    requires { length drafts.now ≡ length names.now }
-{
-    let away = last_away(rt, last, last_old);
-    match away {
-        Away::Moved => name_all(rt, true, names, drafts, last, last_new, last_old),
-        Away::Missing => name_all(rt, false, names, drafts, last, last_new, last_old),
-        Away::Stuck => {
-            no_drafts(rt, drafts, last_new);
-            false
+    // The new files take their names; in between there is no last file.
+    fn take_names<R: Files>(&self, rt: &R) -> Result<(), ReplaceError> {
+        match self.last_away(rt) {
+            Ok(moved) => self.name_all(rt, moved),
+            Err(_) => {
+                self.no_drafts(rt);
+                Err(ReplaceError::NotNamed)
+            }
         }
+    }
+
+    // The drafts, if all were written, take the names of the files.
+    fn replace<R: Files>(&self, rt: &R) -> Result<(), ReplaceError> {
+        if self.write(rt).is_err() {
+            self.no_drafts(rt);
+            return Err(ReplaceError::NotWritten);
+        }
+        self.take_names(rt)
     }
 }
 
-// The drafts, if all were written, take the names of the files; the old last file stands under a name of its own meanwhile.
-fn put_in_place<R: Files>(
+// `circuits.rec` of these bytes.
+fn circuits_draft(bytes: &[u8]) -> Draft<'_> {
+    Draft {
+        name: "circuits.rec",
+        draft: "circuits.rec.new",
+        bytes,
+    }
+}
+
+// `fibres.rec` of these bytes.
+fn fibres_draft(bytes: &[u8]) -> Draft<'_> {
+    Draft {
+        name: "fibres.rec",
+        draft: "fibres.rec.new",
+        bytes,
+    }
+}
+
+// Replaces these files and then `assign.rec`, which has these bytes.
+fn replace_with_assignments<R: Files>(
     rt: &R,
-    written: bool,
-    names: &[&str],
-    drafts: &[&str],
-    last: &str,
-    last_new: &str,
-    last_old: &str,
-) -> Replacement
-    requires { length drafts.now ≡ length names.now }
-{
-    if !written {
-        no_drafts(rt, drafts, last_new);
-        return Replacement::NotWritten;
-    }
-    if !take_names(rt, names, drafts, last, last_new, last_old) {
-        return Replacement::NotNamed;
-    }
-    Replacement::Done
+    others: &[Draft<'_>],
+    assigns: &[u8],
+) -> Result<(), ReplaceError> {
+    let last = Draft {
+        name: "assign.rec",
+        draft: "assign.rec.new",
+        bytes: assigns,
+    };
+    let files = Together {
+        others,
+        last,
+        last_old: "assign.rec.old",
+    };
+    files.replace(rt)
 }
 
 // Replaces line.rec and circuits.rec by files of these bytes. At every moment there is the old pair, or the new pair, or no line.rec.
-pub fn replace_records<R: Files>(rt: &R, line: &[u8], circuits: &[u8]) -> Replacement {
-    let written = write_both(rt, "circuits.rec.new", circuits, "line.rec.new", line);
-    put_in_place(
-        rt,
-        written,
-        &["circuits.rec"],
-        &["circuits.rec.new"],
-        "line.rec",
-        "line.rec.new",
-        "line.rec.old",
-    )
-}
-
-// The same where assign.rec is the last file.
-fn put_with_assignments<R: Files>(
-    rt: &R,
-    written: bool,
-    names: &[&str],
-    drafts: &[&str],
-) -> Replacement
-    requires { length drafts.now ≡ length names.now }
-{
-    put_in_place(
-        rt,
-        written,
-        names,
-        drafts,
-        "assign.rec",
-        "assign.rec.new",
-        "assign.rec.old",
-    )
+pub fn replace_records<R: Files>(rt: &R, line: &[u8], circuits: &[u8]) -> Result<(), ReplaceError> {
+    let last = Draft {
+        name: "line.rec",
+        draft: "line.rec.new",
+        bytes: line,
+    };
+    let files = Together {
+        others: &[circuits_draft(circuits)],
+        last,
+        last_old: "line.rec.old",
+    };
+    files.replace(rt)
 }
 
 // Replaces fibres.rec and assign.rec by files of these bytes. At every moment there is the old pair, or the new pair, or no assign.rec.
-pub fn replace_lists<R: Files>(rt: &R, fibres: &[u8], assigns: &[u8]) -> Replacement {
-    let written = write_both(rt, "fibres.rec.new", fibres, "assign.rec.new", assigns);
-    put_with_assignments(rt, written, &["fibres.rec"], &["fibres.rec.new"])
-}
-
-// Two files before assign.rec, which take their names in this order.
-fn put_two<'a, R: Files>(
-    rt: &R,
-    written: bool,
-    first: &'a str,
-    second: &'a str,
-    first_new: &'a str,
-    second_new: &'a str,
-) -> Replacement {
-    put_with_assignments(rt, written, &[first, second], &[first_new, second_new])
+pub fn replace_lists<R: Files>(rt: &R, fibres: &[u8], assigns: &[u8]) -> Result<(), ReplaceError> {
+    replace_with_assignments(rt, &[fibres_draft(fibres)], assigns)
 }
 
 // Replaces circuits.rec, fibres.rec and assign.rec by files of these bytes. At every moment there are the old three, or the new three, or no assign.rec.
@@ -250,15 +200,23 @@ pub fn replace_plan<R: Files>(
     circuits: &[u8],
     fibres: &[u8],
     assigns: &[u8],
-) -> Replacement {
-    let written = write_draft(rt, "circuits.rec.new", circuits)
-        && write_both(rt, "fibres.rec.new", fibres, "assign.rec.new", assigns);
-    put_two(
-        rt,
-        written,
-        "circuits.rec",
-        "fibres.rec",
-        "circuits.rec.new",
-        "fibres.rec.new",
-    )
+) -> Result<(), ReplaceError> {
+    let others = [circuits_draft(circuits), fibres_draft(fibres)];
+    replace_with_assignments(rt, &others, assigns)
+}
+
+// Prints a text, or what is said where the files that it tells of could not be written, or not be named.
+pub fn print_replaced<P: Print>(
+    rt: &P,
+    replaced: Result<(), ReplaceError>,
+    text: &[u8],
+    not_written: &[u8],
+    not_named: &[u8],
+) {
+    let told = match replaced {
+        Ok(()) => text,
+        Err(ReplaceError::NotWritten) => not_written,
+        Err(ReplaceError::NotNamed) => not_named,
+    };
+    let _ = crate::write_output(rt, told);
 }

@@ -27,10 +27,9 @@ pub record Walk (n from : ℕ) (cs : List Circuit) (x : Origin) (o z : ℕ) (s :
   pub swept : Swept n from cs x o (standing cs z) s F A
 
 -- what the loop asks at circuit j
-pub record There (j : ℕ) (file next A : List ℕ) : Type 0 where
+pub record There (j : ℕ) (file A : List ℕ) : Type 0 where
   pub few : j < 2048
   pub listed : 8 * j + 8 ≤ length file
-  pub linked : j < length next
   pub room : 8 * j + 8 ≤ length A
 
 -- how far a walk has to go
@@ -51,19 +50,19 @@ module _ (m : ℕ) (file : List ℕ) (whole : 8 * m ≤ length file) {n w from :
   in_file j l = omega (arith, length_circuits_in m file)
 
   -- the walk begins at the head
-  pub walk_start : {o z : ℕ} {s : Open} {F A : List ℕ} → o < length heads → z ≡ get_or heads o 0 → Swept n from cs x o 0 s F A → Walk n from cs x o z s F A
-  walk_start {o} {z} {s} {F} {A} l e g =
+  pub walk_start : (o : ℕ) {z : ℕ} {s : Open} {F A : List ℕ} → z ≡ get_or heads o 0 → Swept n from cs x o 0 s F A → Walk n from cs x o z s F A
+  walk_start o {z} {s} {F} {A} e g =
       let k : o + 1 ≡ suc o = omega arith in
-      let f : First cs (fibre_number x.plan) (suc o) 0 z = subst (λ (i : ℕ). First cs (fibre_number x.plan) i 0 z) k (subst (First cs (fibre_number x.plan) (o + 1) 0) (sym e) (gr.chained.head o l)) in
+      let f : First cs (fibre_number x.plan) (suc o) 0 z = subst (λ (i : ℕ). First cs (fibre_number x.plan) i 0 z) k (subst (First cs (fibre_number x.plan) (o + 1) 0) (sym e) (gr.chained.head o)) in
       record { rider = f.rides; swept = on_to n w from cs work next heads x gr o 0 z s F A (omega arith) f g }
 
   -- it has no circuit, or no more
-  pub walk_end : {o z : ℕ} {s : Open} {F A : List ℕ} → z ≡ 0 → Walk n from cs x o z s F A → Swept n from cs x (o + 1) 0 (closed (record { fibres = s.many; total = s.total })) F A
+  pub walk_end : {o z : ℕ} {s : Open} {F A : List ℕ} → z ≡ 0 → Walk n from cs x o z s F A → Swept n from cs x (o + 1) 0 (closed s.made) F A
   unfolding standing
   walk_end {o} {z} {s} {F} {A} e g =
       let k : suc o ≡ o + 1 = omega arith in
       let h : Swept n from cs x o past_all s F A = subst (λ (i : ℕ). Swept n from cs x o (standing cs i) s F A) e g.swept in
-      subst (λ (i : ℕ). Swept n from cs x i 0 (closed (record { fibres = s.many; total = s.total })) F A) k (swept_over n w from cs work next heads x gr o s F A h)
+      subst (λ (i : ℕ). Swept n from cs x i 0 (closed s.made) F A) k (swept_over n w from cs work next heads x gr o s F A h)
 
   -- at circuit j
   module _ {o j z : ℕ} {s : Open} {F A : List ℕ} (low : o < 4096) (here : z ≡ suc j) (g : Walk n from cs x o z s F A) where
@@ -77,14 +76,13 @@ module _ (m : ℕ) (file : List ℕ) (whole : 8 * m ≤ length file) {n w from :
     swept = subst (λ (i : ℕ). Swept n from cs x o (standing cs i) s F A) here g.swept
 
     -- it is there
-    pub there : There j file next A
+    pub there : There j file A
     there =
         let l = rides.there in
         let f = gr.few in
-        let k = gr.linked in
         let a = gr.assign_room in
         let b = swept.kept in
-        record { few = omega arith; listed = in_file j l; linked = omega arith; room = omega arith }
+        record { few = omega arith; listed = in_file j l; room = omega arith }
 
     -- it has a row
     pub has_row : HasRow n w m j work
@@ -139,19 +137,19 @@ module _ (m : ℕ) (file : List ℕ) (whole : 8 * m ≤ length file) {n w from :
         }
 
     -- its number fits
-    pub number_low : {c : Circuit} {s' : Open} → c ≡ circuit_of (record_at file j) → s' ≡ taken c s → from + s'.many ≤ 65535
+    pub number_low : {c : Circuit} {s' : Open} → c ≡ circuit_of (record_at file j) → s' ≡ taken c s → from + s'.made.fibres ≤ 65535
     number_low {c} {s'} e t =
         let q = asked {layer = 0} (omega arith) e in
-        let m = ap (λ (i : Open). i.many) t in
+        let m = ap (λ (i : Open). i.made.fibres) t in
         by_le c.first s.past
         (λ h.
         by_le (c.last + 1) s.past
-        (λ k. let v = ap (λ (i : Open). i.many) (in_taken c s h k) in omega (arith, few))
-        (λ k. let v = ap (λ (i : Open). i.many) (on_taken c s c.last refl h k) in omega (arith, few)))
-        (λ h. let v = ap (λ (i : Open). i.many) (new_taken c s c.first c.last refl refl h) in let y = (q.new h).1 in omega arith)
+        (λ k. let v = ap (λ (i : Open). i.made.fibres) (in_taken c s h k) in omega (arith, few))
+        (λ k. let v = ap (λ (i : Open). i.made.fibres) (on_taken c s c.last refl h k) in omega (arith, few)))
+        (λ h. let v = ap (λ (i : Open). i.made.fibres) (new_taken c s c.first c.last refl refl h) in let y = (q.new h).1 in omega arith)
       where
         -- as many as there are
-        few : from + s.many ≤ 65535
+        few : from + s.made.fibres ≤ 65535
         few =
             let b : s.past ≤ n + 1 = ⊎_elim (λ i. omega arith) (λ i. i.1) (past_real n w from cs work next heads x gr o (key cs j) s F A swept) in
             let k = few_listed n w from cs work next heads x gr o s.past b in
@@ -181,11 +179,11 @@ module _ (m : ℕ) (file : List ℕ) (whole : 8 * m ≤ length file) {n w from :
 
     -- the circuit is taken in, gets its number, and the walk goes on
     pub walk_turn : {c : Circuit} {layer v : ℕ} {s' : Open} {F' A' : List ℕ} → c ≡ circuit_of (record_at file j) → layer ≡ layer_on n w from cs work next heads x gr o → v ≡ get_or next j 0
-        → s' ≡ taken c s → F' ≡ written from layer c s F → length F' ≡ length F → A' ≡ set_cell A (4 * j + 2) (from + s'.many) → Walk n from cs x o v s' F' A'
+        → s' ≡ taken c s → F' ≡ written from layer c s F → length F' ≡ length F → A' ≡ set_cell A (4 * j + 2) (from + s'.made.fibres) → Walk n from cs x o v s' F' A'
     walk_turn {c} {layer} {v} {s'} {F'} {A'} e q u t f l a =
         let k = read j c rides.there e in
         let t' : s' ≡ taken (circuit cs j) s = t ∙ ap (λ (i : Circuit). taken i s) k in
-        let b = swept_turn n w from cs work next heads x gr o j s F A rides swept layer F' A' q (f ∙ ap (λ (i : Circuit). written from layer i s F) k) l (a ∙ ap (λ (i : Open). set_cell A (4 * j + 2) (from + i.many)) t') in
+        let b = swept_turn n w from cs work next heads x gr o j s F A rides swept layer F' A' q (f ∙ ap (λ (i : Circuit). written from layer i s F) k) l (a ∙ ap (λ (i : Open). set_cell A (4 * j + 2) (from + i.made.fibres)) t') in
         let b' : Swept n from cs x o (suc (key cs j)) s' F' A' = subst (λ (i : Open). Swept n from cs x o (suc (key cs j)) i F' A') (sym t') b in
         let h = next_is u in
         let y = key_low n w from cs work next heads x gr j rides.there in

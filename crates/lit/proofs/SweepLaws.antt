@@ -198,7 +198,7 @@ module _ (n w from : ℕ) (cs : List Circuit) (work next heads : List ℕ) (x : 
         ∙ sym (append_assoc (stretches_to n cs p o) (runs (layer_on o) lights 1 (s.past - 1)) (record { first = c.first; last = c.last; layer = layer_on o } ∷ []))
 
     -- there is room for it
-    pub new_few : s.past < c.first → s.many + 1 ≤ length cs
+    pub new_few : s.past < c.first → s.made.fibres + 1 ≤ length cs
     new_few h =
         let e = ends j r.there in
         let e₂ = e.2 in
@@ -237,7 +237,7 @@ module _ (n w from : ℕ) (cs : List Circuit) (work next heads : List ℕ) (x : 
     lit_on h y a b = let q = opened h in by_eq y (s.past - 1) (λ z. ap lights z ∙ lit_far h) (λ z. shine y (omega arith) b)
 
     -- there is a last record
-    pub last_there : c.first ≤ s.past → 1 ≤ s.many
+    pub last_there : c.first ≤ s.past → 1 ≤ s.made.fibres
     unfolding so_far
     last_there h =
         let q = opened h in
@@ -292,9 +292,9 @@ module _ (n w from : ℕ) (cs : List Circuit) (work next heads : List ℕ) (x : 
         )
 
     -- THE TURN, put together
-    swept_by : (s' : Open) (F' A' : List ℕ) → s'.past ≡ max s.past (c.last + 1) → s'.many ≡ length (so_far n cs p o s'.past) → s'.total ≡ total (so_far n cs p o s'.past)
+    swept_by : (s' : Open) (F' A' : List ℕ) → s'.past ≡ max s.past (c.last + 1) → s'.made.fibres ≡ length (so_far n cs p o s'.past) → s'.made.total ≡ total (so_far n cs p o s'.past)
         → F' ≡ fibre_list from (so_far n cs p o s'.past) x.fibres → length F' ≡ length F
-        → A' ≡ set_cell A (4 * j + 2) (from + s'.many) → Swept n from cs x o (suc (key cs j)) s' F' A'
+        → A' ≡ set_cell A (4 * j + 2) (from + s'.made.fibres) → Swept n from cs x o (suc (key cs j)) s' F' A'
     swept_by s' F' A' e q t f l a =
         record {
           all_end = λ d b k.
@@ -309,21 +309,21 @@ module _ (n w from : ℕ) (cs : List Circuit) (work next heads : List ℕ) (x : 
           summed = t;
           listed = f;
           sized = l ∙ g.sized;
-          kept = ap length a ∙ length_stored A (4 * j + 2) (from + s'.many) ∙ g.kept;
-          rest = ap (drop (8 * length cs)) a ∙ behind_kept A j (length cs) (from + s'.many) r.there ∙ g.rest;
+          kept = ap length a ∙ length_stored A (4 * j + 2) (from + s'.made.fibres) ∙ g.kept;
+          rest = ap (drop (8 * length cs)) a ∙ behind_kept A j (length cs) (from + s'.made.fibres) r.there ∙ g.rest;
           some = λ d b.
               by_eq d j
-              (λ z. (from + s'.many, at d z))
-              (λ z. ((g.some d b).0, ap (λ (y : List ℕ). record_at y d) a ∙ record_other A d j (from + s'.many) z ∙ (g.some d b).1));
+              (λ z. (from + s'.made.fibres, at d z))
+              (λ z. ((g.some d b).0, ap (λ (y : List ℕ). record_at y d) a ∙ record_other A d j (from + s'.made.fibres) z ∙ (g.some d b).1));
           given = λ d b k.
               by_eq d j
-              (λ z. at d z ∙ ap (λ (y : ℕ). spot cs p d (from + y)) (number s'.many s'.past e q ∙ ap (new_fibre n cs p) (sym z)))
+              (λ z. at d z ∙ ap (λ (y : ℕ). spot cs p d (from + y)) (number s'.made.fibres s'.past e q ∙ ap (new_fibre n cs p) (sym z)))
               (λ z.
               let y = other d b z in
               let m = key_low d b in
               let v = key_low j r.there in
               let w = r.mine in
-              ap (λ (y : List ℕ). record_at y d) a ∙ record_other A d j (from + s'.many) z ∙ g.given d b (omega arith));
+              ap (λ (y : List ℕ). record_at y d) a ∙ record_other A d j (from + s'.made.fibres) z ∙ g.given d b (omega arith));
         }
       where
         -- nobody else stands where it does
@@ -331,11 +331,11 @@ module _ (n w from : ℕ) (cs : List Circuit) (work next heads : List ℕ) (x : 
         other d b z u = z (key_one cs gr.few d j b r.there u)
 
         -- its record
-        at : (d : ℕ) → d ≡ j → record_at A' d ≡ spot cs p d (from + s'.many)
-        at d z = rw z (ap (λ (y : List ℕ). record_at y j) a ∙ renumbered cs p A j (g.some j r.there).0 (from + s'.many) (g.some j r.there).1)
+        at : (d : ℕ) → d ≡ j → record_at A' d ≡ spot cs p d (from + s'.made.fibres)
+        at d z = rw z (ap (λ (y : List ℕ). record_at y j) a ∙ renumbered cs p A j (g.some j r.there).0 (from + s'.made.fibres) (g.some j r.there).1)
 
     -- one more circuit is swept
-    pub swept_turn : (layer : ℕ) (F' A' : List ℕ) → layer ≡ layer_on o → F' ≡ written from layer c s F → length F' ≡ length F → A' ≡ set_cell A (4 * j + 2) (from + (taken c s).many)
+    pub swept_turn : (layer : ℕ) (F' A' : List ℕ) → layer ≡ layer_on o → F' ≡ written from layer c s F → length F' ≡ length F → A' ≡ set_cell A (4 * j + 2) (from + (taken c s).made.fibres)
         → Swept n from cs x o (suc (key cs j)) (taken c s) F' A'
     swept_turn layer F' A' e f l a =
         let E = ends j r.there in
@@ -348,9 +348,9 @@ module _ (n w from : ℕ) (cs : List Circuit) (work next heads : List ℕ) (x : 
         let v : s.past ≡ max s.past (c.last + 1) = omega arith in
         subst (λ (i : Open). Swept n from cs x o (suc (key cs j)) i F' A') t
         (swept_by s F' A' v g.counted g.summed (f ∙ sym (in_written c s from layer F h k) ∙ g.listed) l
-        (a ∙ ap (λ (i : Open). set_cell A (4 * j + 2) (from + i.many)) (sym t))))
+        (a ∙ ap (λ (i : Open). set_cell A (4 * j + 2) (from + i.made.fibres)) (sym t))))
         (λ k.
-        let u : Open = record { many = s.many; total = s.total + (c.last + 1 - s.past); past = c.last + 1 } in
+        let u : Open = record { made = record { fibres = s.made.fibres; total = s.made.total + (c.last + 1 - s.past) }; past = c.last + 1 } in
         let t : u ≡ taken c s = on_taken c s c.last refl h k in
         let L : List Fibre = so_far n cs p o s.past in
         let y = on_list h k in
@@ -359,11 +359,11 @@ module _ (n w from : ℕ) (cs : List Circuit) (work next heads : List ℕ) (x : 
         (g.counted ∙ sym (longer_length c.last L) ∙ ap length (sym y))
         (omega (arith, g.summed, on_total h k))
         (subst (λ (i : List Fibre). F' ≡ fibre_list from i x.fibres) (sym y)
-        (filled_longer from s.many c.last L x.fibres F F' g.counted (last_there h) g.listed (f ∙ sym (on_written c s from layer F (set_cell F (4 * (s.many - 1) + 2) c.last) h k refl))))
+        (filled_longer from s.made.fibres c.last L x.fibres F F' g.counted (last_there h) g.listed (f ∙ sym (on_written c s from layer F (set_cell F (4 * (s.made.fibres - 1) + 2) c.last) h k refl))))
         l
-        (a ∙ ap (λ (i : Open). set_cell A (4 * j + 2) (from + i.many)) (sym t)))))
+        (a ∙ ap (λ (i : Open). set_cell A (4 * j + 2) (from + i.made.fibres)) (sym t)))))
         (λ h.
-        let u : Open = record { many = s.many + 1; total = s.total + (c.last + 1 - c.first); past = c.last + 1 } in
+        let u : Open = record { made = record { fibres = s.made.fibres + 1; total = s.made.total + (c.last + 1 - c.first) }; past = c.last + 1 } in
         let t : u ≡ taken c s = new_taken c s c.first c.last refl refl h in
         let L : List Fibre = so_far n cs p o s.past in
         let z : Fibre = record { first = c.first; last = c.last; layer = layer_on o } in
@@ -373,11 +373,11 @@ module _ (n w from : ℕ) (cs : List Circuit) (work next heads : List ℕ) (x : 
         (omega (arith, g.counted, ap length y, length-append L (z ∷ [])))
         (omega (arith, g.summed, new_total h))
         (subst (λ (i : List Fibre). F' ≡ fibre_list from i x.fibres) (sym y)
-        (filled_more from s.many L z x.fibres F F' g.counted g.listed
-        (f ∙ sym (new_written c s from layer F (put_record F s.many (fibre_record (from + s.many + 1) (record { first = c.first; last = c.last; layer = layer }))) h (unfold fibre_record in refl))
-        ∙ ap (λ (i : ℕ). put_record F s.many (fibre_record (from + s.many + 1) (record { first = c.first; last = c.last; layer = i }))) e)))
+        (filled_more from s.made.fibres L z x.fibres F F' g.counted g.listed
+        (f ∙ sym (new_written c s from layer F (put_record F s.made.fibres (fibre_record (from + s.made.fibres + 1) (record { first = c.first; last = c.last; layer = layer }))) h (unfold fibre_record in refl))
+        ∙ ap (λ (i : ℕ). put_record F s.made.fibres (fibre_record (from + s.made.fibres + 1) (record { first = c.first; last = c.last; layer = i }))) e)))
         l
-        (a ∙ ap (λ (i : Open). set_cell A (4 * j + 2) (from + i.many)) (sym t))))
+        (a ∙ ap (λ (i : Open). set_cell A (4 * j + 2) (from + i.made.fibres)) (sym t))))
 
   -- ON TO THE NEXT FIBRE: all its circuits are swept
   module _ (o : ℕ) (s : Open) (F A : List ℕ) (g : Swept n from cs x o past_all s F A) where
@@ -395,7 +395,7 @@ module _ (n w from : ℕ) (cs : List Circuit) (work next heads : List ℕ) (x : 
         (up_darks (layer_on o) (lit cs p (suc o)) (s.past - 1) n b (λ y v w. reached_dark n cs p gr.lies (suc o) (suc n) (s.past - 1) u y v (omega arith)))
 
     -- the next fibre
-    pub swept_over : Swept n from cs x (suc o) 0 (record { many = s.many; total = s.total; past = 0 }) F A
+    pub swept_over : Swept n from cs x (suc o) 0 (record { made = s.made; past = 0 }) F A
     swept_over =
         record {
           all_end = λ d r k. absurd (omega arith);

@@ -12,21 +12,21 @@ use Rattle.lit.specs.declared.Open.{Open}
 
 module _ (c : Circuit) (s : Open) where
   -- it begins a run
-  pub new_taken : (a b : ℕ) → a ≡ c.first → b ≡ c.last → s.past < c.first → ◌≡◌ {A = Open} (record { many = s.many + 1; total = s.total + (b + 1 - a); past = b + 1 }) (taken c s)
+  pub new_taken : (a b : ℕ) → a ≡ c.first → b ≡ c.last → s.past < c.first → ◌≡◌ {A = Open} (record { made = record { fibres = s.made.fibres + 1; total = s.made.total + (b + 1 - a) }; past = b + 1 }) (taken c s)
   unfolding taken
-  new_taken a b p q h = rw (lt-ltb s.past c.first h) (λ i. record { many = s.many + 1; total = s.total + (q i + 1 - p i); past = q i + 1 })
+  new_taken a b p q h = rw (lt-ltb s.past c.first h) (λ i. record { made = record { fibres = s.made.fibres + 1; total = s.made.total + (q i + 1 - p i) }; past = q i + 1 })
 
-  pub new_written : (from layer : ℕ) (F F' : List ℕ) → s.past < c.first → F' ≡ put_record F s.many (fibre_bytes (record { number = from + s.many + 1; first = c.first; last = c.last; layer = layer }))
+  pub new_written : (from layer : ℕ) (F F' : List ℕ) → s.past < c.first → F' ≡ put_record F s.made.fibres (fibre_bytes (record { number = from + s.made.fibres + 1; first = c.first; last = c.last; layer = layer }))
       → F' ≡ written from layer c s F
   unfolding written fibre_record
   new_written from layer F F' h e = e ∙ sym (rw (lt-ltb s.past c.first h))
 
   -- it lengthens the one that is open
-  pub on_taken : (b : ℕ) → b ≡ c.last → c.first ≤ s.past → s.past < c.last + 1 → ◌≡◌ {A = Open} (record { many = s.many; total = s.total + (b + 1 - s.past); past = b + 1 }) (taken c s)
+  pub on_taken : (b : ℕ) → b ≡ c.last → c.first ≤ s.past → s.past < c.last + 1 → ◌≡◌ {A = Open} (record { made = record { fibres = s.made.fibres; total = s.made.total + (b + 1 - s.past) }; past = b + 1 }) (taken c s)
   unfolding taken
-  on_taken b q h k = rw (le-ltb s.past c.first h, lt-ltb s.past (c.last + 1) k) (λ i. record { many = s.many; total = s.total + (q i + 1 - s.past); past = q i + 1 })
+  on_taken b q h k = rw (le-ltb s.past c.first h, lt-ltb s.past (c.last + 1) k) (λ i. record { made = record { fibres = s.made.fibres; total = s.made.total + (q i + 1 - s.past) }; past = q i + 1 })
 
-  pub on_written : (from layer : ℕ) (F F' : List ℕ) → c.first ≤ s.past → s.past < c.last + 1 → F' ≡ set_cell F (4 * (s.many - 1) + 2) c.last → F' ≡ written from layer c s F
+  pub on_written : (from layer : ℕ) (F F' : List ℕ) → c.first ≤ s.past → s.past < c.last + 1 → F' ≡ set_cell F (4 * (s.made.fibres - 1) + 2) c.last → F' ≡ written from layer c s F
   unfolding written
   on_written from layer F F' h k e = e ∙ sym (rw (le-ltb s.past c.first h, lt-ltb s.past (c.last + 1) k))
 

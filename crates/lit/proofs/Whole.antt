@@ -4,7 +4,7 @@ use mathlib.Core.Path.{◌≡◌, refl, sym, ap, subst, ◌∙◌}
 use mathlib.Core.Logic.{inl}
 use mathlib.Core.List.{List, append-nil}
 use native.Mathlib.Omega.{arith}
-use lib.ListN.{length, get_or}
+use lib.ListN.{length}
 use Rattle.basics.specs.Tools.{each}
 use Rattle.records.specs.Records.{circuits_in, record_at}
 use Rattle.records.specs.declared.Circuit.{Circuit}
@@ -43,14 +43,13 @@ module _ {n w m from many : ℕ} {s : List ℕ} {lent : Areas} (t : Trimmable n 
   held_fibre j l = ap (λ (g : Assignment). g.fibre) (assignment_read (circuit cs j) (assigned p j) (record_at lent.assigns j) (h.records j l)).1
 
   -- the chains can be made
-  pub held_unchained : (next heads : List ℕ) → length next ≡ 2048 → length heads ≡ 4096 → ((f : ℕ) → get_or heads f 0 ≡ 0) → Unchained n m s lent.assigns next heads
-  held_unchained next heads a b z =
+  pub held_unchained : Unchained n m s lent.assigns
+  held_unchained =
       record {
         line = t.line;
         few = t.few;
         file = t.file;
         listed = t.assign_room;
-        room = omega (arith, t.few);
         lies = t.lies;
         numbered = λ j l.
             let e = held_fibre j l in
@@ -58,12 +57,11 @@ module _ {n w m from many : ℕ} {s : List ℕ} {lent : Areas} (t : Trimmable n 
             let v₀ = v.0 in
             let v₁ = v.1 in
             (omega arith, omega (arith, t.fibres_few));
-        none = z;
       }
 
   -- what does not change
-  pub held_ground : (next heads : List ℕ) → Chained cs (fibre_in lent.assigns) next heads → length next ≡ 2048 → Ground n w from cs lent.work next heads origin
-  held_ground next heads d e =
+  pub held_ground : (next heads : List ℕ) → Chained cs (fibre_in lent.assigns) next heads → Ground n w from cs lent.work next heads origin
+  held_ground next heads d =
       let k = sized in
       let h' : Held n w (length cs) many cs p lent.work lent.assigns = subst (λ (i : ℕ). Held n w i many cs p lent.work lent.assigns) (sym sized) h in
       record {
@@ -72,7 +70,6 @@ module _ {n w m from many : ℕ} {s : List ℕ} {lent : Areas} (t : Trimmable n 
         few = omega (arith, t.few);
         lies = t.lies;
         chained = chained_same cs (fibre_in lent.assigns) (fibre_number p) next heads (λ j l. held_fibre j (omega arith)) d;
-        linked = omega (arith, t.few);
         area = omega (arith, t.area);
         rows = h'.rows;
         layers = h'.layers;

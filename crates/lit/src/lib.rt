@@ -1,7 +1,8 @@
 // Request R-1: no dark strands. Each maximal run of links that the circuits of an old fibre use becomes a fibre of the same layer in its place.
+// The lent areas go one by one: a struct that holds them by reference makes clauses say `.entry.` of each field.
 #![tactic(auto)]
 
-ghost use Rattle.std.specs.Prelude.{◌≡◌, ◌+◌, ◌/◌, ◌≤◌, ◌<◌, length, get_or};
+ghost use Rattle.std.specs.Prelude.{◌≡◌, ◌+◌, ◌/◌, ◌≤◌, ◌<◌, get_or};
 ghost use Rattle.records.specs.Area.{rows_in};
 ghost use Rattle.records.specs.Bytes.{cells_of};
 ghost use Rattle.records.specs.Records.{circuits_in};
@@ -11,20 +12,22 @@ ghost use Rattle.register.specs.Areas.{areas};
 ghost use Rattle.lit.specs.Trims.{Held, Lean, Trimmable};
 ghost use Rattle.lit.specs.inner.Sweeps.{HasRow, SweptOn, SweptSome, Takable, taken, written};
 
+use records::chains::Chains;
+use records::{Circuit, FibreRecord};
 use register::Job;
 
 // How many fibres, and their length.
-#[derive(Clone, Copy)]
+#[derive(Clone, Copy, Debug, PartialEq, Eq)]
 pub struct Trimmed {
     pub fibres: usize,
     pub total: usize,
 }
 
-// New fibres so far and their length; `past` is the link after the run that is open, or 0 if none is.
-#[derive(Clone, Copy)]
+// What is made so far; `past` is the link after the run that is open, or 0 if none is.
+// An `Option` is no plainer: 0 is below each link, so one comparison does for both.
+#[derive(Clone, Copy, Debug, PartialEq, Eq)]
 struct Open {
-    many: usize,
-    total: usize,
+    made: Trimmed,
     past: usize,
 }
 
@@ -33,40 +36,39 @@ fn layer_of(job: Job, j: usize, work: &[u8]) -> usize
     requires { HasRow job.links job.wavelengths job.circuits j work.now }
     ensures { (result ≡ layer_of job.wavelengths (get_or (rows_in job.links job.circuits (cells_of work.now)) j 0 / 2)) × (result ≤ 65535) }
 {
-    let row = records::numbers::index(records::cells::get(work, 2 * job.links + j)) / 2;
+    let row = usize::from(records::cells::get(work, 2 * job.links + j)) / 2;
     (row - 1) / job.wavelengths + 1
 }
 
 // Circuit c, which begins no sooner than those before it: it begins a run past the one that is open, lengthens that one, or lies in it.
-fn take_in(c: records::Circuit, layer: usize, from: usize, fibres: &mut [u8], s: Open) -> Open
+fn take_in(c: Circuit, layer: usize, from: usize, fibres: &mut [u8], s: Open) -> Open
     requires { Takable from layer c s fibres.old }
     ensures { (result ≡ taken c s) × (fibres.new ≡ written from layer c s fibres.old) }
 {
-    let first = records::numbers::index(c.first);
-    let end = records::numbers::index(c.last) + 1;
-    let many = s.many;
-    let past = s.past;
+    let first = usize::from(c.first);
+    let end = usize::from(c.last) + 1;
+    let Open { made, past } = s;
     if past < first {
-        let f = records::FibreRecord {
-            number: (from + many + 1) as u16,
+        let f = FibreRecord {
+            number: (from + made.fibres + 1) as u16,
             first: c.first,
             last: c.last,
             layer: layer as u16,
         };
-        records::put_fibre(fibres, many, f);
-        return Open {
-            many: many + 1,
-            total: s.total + (end - first),
-            past: end,
+        records::put_record(fibres, made.fibres, f);
+        let made = Trimmed {
+            fibres: made.fibres + 1,
+            total: made.total + (end - first),
         };
+        return Open { made, past: end };
     }
     if past < end {
-        records::cells::put(fibres, 4 * (many - 1) + 2, c.last);
-        return Open {
-            many,
-            total: s.total + (end - past),
-            past: end,
+        records::cells::put(fibres, 4 * (made.fibres - 1) + 2, c.last);
+        let made = Trimmed {
+            total: made.total + (end - past),
+            ..made
         };
+        return Open { made, past: end };
     }
     s
 }
@@ -77,38 +79,28 @@ fn runs_of(
     o: usize,
     circuits: &[u8],
     work: &[u8],
-    next: &[u16],
-    heads: &[u16],
+    chains: &Chains<4096>,
     s: Trimmed,
     fibres: &mut [u8],
     assigns: &mut [u8],
 ) -> Trimmed
-    requires o_in_bounds { (o < length heads.now) × (o < 4096) }
-    requires swept_some { SweptSome job o circuits.now work.now next.now heads.now s fibres.old assigns.old }
-    ensures { SweptOn job circuits.now work.now next.now heads.now o s fibres.old assigns.old (o + 1) result fibres.new assigns.new }
+    requires fibre { o < 4096 }
+    requires swept_some { SweptSome job o circuits.now work.now chains.now.next chains.now.heads s fibres.old assigns.old }
+    ensures { SweptOn job circuits.now work.now chains.now.next chains.now.heads o s fibres.old assigns.old (o + 1) result fibres.new assigns.new }
 {
-    let head = records::numbers::index(heads[o]);
-    if head == 0 {
+    let mut at = chains.first(o);
+    let Some(head) = at else {
         return s;
-    }
-    let layer = layer_of(job, head - 1, work);
-    let mut run = Open {
-        many: s.fibres,
-        total: s.total,
-        past: 0,
     };
-    let mut z = head;
-    while 0 < z {
-        let j = z - 1;
-        let c = records::circuit_at(circuits, j);
+    let layer = layer_of(job, head, work);
+    let mut run = Open { made: s, past: 0 };
+    while let Some(j) = at {
+        let c = records::record_at::<Circuit>(circuits, j);
         run = take_in(c, layer, job.from, fibres, run);
-        records::cells::put(assigns, 4 * j + 2, (job.from + run.many) as u16);
-        z = records::numbers::index(next[j]);
+        records::cells::put(assigns, 4 * j + 2, (job.from + run.made.fibres) as u16);
+        at = chains.after(j);
     }
-    Trimmed {
-        fibres: run.many,
-        total: run.total,
-    }
+    run.made
 }
 
 // All old fibres, in their order.
@@ -117,23 +109,20 @@ fn trim_all(
     many: usize,
     circuits: &[u8],
     work: &[u8],
-    next: &[u16],
-    heads: &[u16],
+    chains: &Chains<4096>,
     fibres: &mut [u8],
     assigns: &mut [u8],
 ) -> Trimmed
-    requires many_in_bounds { (many ≤ length heads.now) × (many ≤ 4096) }
-    requires swept_some { SweptSome job 0 circuits.now work.now next.now heads.now (record { fibres = 0; total = 0 }) fibres.old assigns.old }
-    ensures { SweptOn job circuits.now work.now next.now heads.now 0 (record { fibres = 0; total = 0 }) fibres.old assigns.old many result fibres.new assigns.new }
+    requires fibres { many ≤ 4096 }
+    requires swept_some { SweptSome job 0 circuits.now work.now chains.now.next chains.now.heads (record { fibres = 0; total = 0 }) fibres.old assigns.old }
+    ensures { SweptOn job circuits.now work.now chains.now.next chains.now.heads 0 (record { fibres = 0; total = 0 }) fibres.old assigns.old many result fibres.new assigns.new }
 {
     let mut s = Trimmed {
         fibres: 0,
         total: 0,
     };
-    let mut o = 0;
-    while o < many {
-        s = runs_of(job, o, circuits, work, next, heads, s, fibres, assigns);
-        o += 1;
+    for o in 0..many {
+        s = runs_of(job, o, circuits, work, chains, s, fibres, assigns);
     }
     s
 }
@@ -151,15 +140,10 @@ pub fn trim(
     requires { Trimmable job.links job.wavelengths job.circuits job.from many circuits.now (areas fibres.old assigns.old work.now) }
     ensures { (p : Plan) → Held job.links job.wavelengths job.circuits many (circuits_in job.circuits circuits.now) p work.now assigns.old → Lean job.links job.from (circuits_in job.circuits circuits.now) p fibres.old fibres.new assigns.old assigns.new result }
 {
-    let mut next: [u16; 2048] = [0; 2048];
-    let mut heads: [u16; 4096] = [0; 4096];
-    chains::by_fibre(
-        circuits,
-        assigns,
-        job.links,
-        job.circuits,
-        &mut next,
-        &mut heads,
-    );
-    trim_all(job, many, circuits, work, &next, &heads, fibres, assigns)
+    let mut chains = Chains {
+        heads: [0; 4096],
+        next: [0; 2048],
+    };
+    chains::by_fibre(circuits, assigns, job.links, job.circuits, &mut chains);
+    trim_all(job, many, circuits, work, &chains, fibres, assigns)
 }

@@ -6,6 +6,7 @@ use mathlib.Core.List.{List, [], map}
 use native.Mathlib.Omega.{arith}
 use lib.ListN.{drop, drop_of_length-le, length, take, take-append-drop}
 use lib.Seq.{length-take-le}
+use Rattle.std.specs.Prelude.{Ok}
 use Rattle.basics.specs.Tools.{any, each}
 use Rattle.basics.proofs.Tables.{each_same}
 use Rattle.records.specs.Records.{assignment_bytes, assignment_of, circuits_of, fibre_of, record_at}
@@ -35,11 +36,9 @@ use Rattle.mending.specs.Mended.{reported}
 use Rattle.mending.specs.MendDemands.{NamesItsOwn, nothing_reported, plan_found}
 use Rattle.mender.specs.Report.{Lent, report_bytes, report_list}
 use Rattle.mender.specs.Table.{mend_table}
-use Rattle.mender.specs.Outcome.{Outcome, damaged, mended_to, old_fibres}
+use Rattle.mender.specs.Outcome.{Outcome, damaged, mended_to, old_fibres, Answer, mended_with}
 use Rattle.mender.specs.Seen.{FibresFit, Room}
 use Rattle.mender.specs.Mendings.{NothingMended, SecondCall, SoundCall}
-use Rattle.mender.specs.declared.Answer.{Answer}
-use Rattle.mender.specs.declared.Answer.TheVariants.{Mended}
 use Rattle.mender.proofs.Leaves.{due, many_fibres, mend_passes}
 use Rattle.mender.proofs.Reading.{by_records}
 use Rattle.mender.proofs.Answers.{bytes_kept, made_so, numbers, passed_mended, passed_so, record_bytes, record_kept, seen_2}
@@ -62,7 +61,7 @@ none_told p s j = refl
 
 -- A CALL ON A REGISTER TO WHICH THE CHECK SAYS YES, each record of which is what the assignment in it is written as
 module _ (line : Line) (s : List ℕ) (many : ℕ) (before : Lent) (few : many ≤ 2048) (room : Room line.links (length s / 8) many before) (told its_floor : ℕ)
-    (yes : checked line s (take (8 * many) before.fibres) before.assigns ≡ Yes told its_floor) where
+    (yes : checked line s (take (8 * many) before.fibres) before.assigns ≡ Ok (Yes told its_floor)) where
   -- how many circuits
   abbrev m : ℕ
   m = length s / 8
@@ -184,10 +183,10 @@ module _ (line : Line) (s : List ℕ) (many : ℕ) (before : Lent) (few : many �
   module _ (after : Lent) (answer : Answer) (call : Outcome line s many before after answer)
       (written : (j : ℕ) → j < m → assignment_bytes (assignment_of (record_at before.assigns j)) ≡ record_at before.assigns j) where
     -- the answer has them, and no line
-    no_lines : answer ≡ Mended (record { fibres = many; total = told; floor = its_floor }) 0
+    no_lines : answer ≡ mended_with (record { fibres = many; total = told; floor = its_floor }) 0
     no_lines =
         passed_mended line s many before after answer call passed
-        ∙ ap₂ Mended numbers_are ((due line s many before passed).lines_are ∙ ap (λ (M : Mend). length M.report) idle)
+        ∙ ap₂ mended_with numbers_are ((due line s many before passed).lines_are ∙ ap (λ (M : Mend). length M.report) idle)
 
     -- and nothing changes
     pub left_alone : NothingMended before after (record { fibres = many; total = told; floor = its_floor }) answer
@@ -217,8 +216,8 @@ sound_stays line s many before after answer told its_floor c =
 pub again : (line : Line) (s : List ℕ) (many : ℕ) (before after before' after' : Lent) (counts : Counts) (lines : ℕ) (answer' : Answer)
     → SecondCall line s many before after before' after' counts lines answer' → NothingMended before' after' counts answer'
 again line s many before after before' after' counts lines answer' c =
-    let passed = passed_so line s many before after (Mended counts lines) c.one counts lines refl in
-    let so = made_so line s many before after (Mended counts lines) c.one counts lines refl in
+    let passed = passed_so line s many before after (mended_with counts lines) c.one counts lines refl in
+    let so = made_so line s many before after (mended_with counts lines) c.one counts lines refl in
     let records = mended_records line.links line.wavelengths (old_fibres many before) (circuits_of s) (damaged s before) in
     left_alone line s counts.fibres before' c.few c.room counts.total counts.floor
     ((λ i. checked line s (c.fibres_left i) (c.assigns_left i)) ∙ mended_yes line s many before after counts lines c.one)

@@ -7,6 +7,7 @@ use mathlib.Core.Option.{some}
 use native.Mathlib.Omega.{arith}
 use lib.ListN.{drop, get_or, length, length-append, length-replicate, replicate, take}
 use lib.Seq.{drop_at, drop-nil, take_at}
+use Rattle.std.specs.Prelude.{Result, Ok, Err}
 use Rattle.basics.proofs.Counts.{count_below}
 use Rattle.records.specs.Records.{assignment_bytes, assignment_of, circuits_of, record_at}
 use Rattle.records.specs.declared.Line.{Line}
@@ -14,10 +15,9 @@ use Rattle.records.proofs.Files.{circuits_in_at, length_circuits_in, length_reco
 use Rattle.records.proofs.Inverse.{assignment_written_read}
 use Rattle.method.specs.Line.{Assignment, Fibre, Plan, Valid, assigned, circuit, nobody, total, unassigned}
 use Rattle.refusals.specs.Given.{NoneApplies}
-use Rattle.refusals.specs.Refusals.{Refusal, refused_with}
+use Rattle.refusals.specs.Refusals.{refusal_in}
 use Rattle.refusals.specs.Table.{Row}
-use Rattle.refusals.specs.declared.Verdict.{Verdict}
-use Rattle.refusals.specs.declared.Verdict.TheVariants.{Checked, Refused as Failed}
+use Rattle.refusals.specs.declared.Refusal.{Refusal}
 use Rattle.refusals.proofs.First.{verdict_given, verdict_passed, verdict_passes, verdict_refused}
 use Rattle.register.specs.Areas.{zeroed_to}
 use Rattle.register.specs.Lists.{assignment_list, assignment_record, assignment_records, behind, fibre_list}
@@ -33,10 +33,9 @@ use Rattle.mending.specs.MendDemands.{MendDemand}
 use Rattle.mending.proofs.Sound.{record_is}
 use Rattle.mender.specs.Report.{Lent, lent_areas, report_bytes, report_in, report_list}
 use Rattle.mender.specs.Table.{mend_table}
-use Rattle.mender.specs.Outcome.{Outcome, answer_by, damaged, judged, mended_to, old_fibres, refusal_of}
+use Rattle.mender.specs.declared.Mended.{Mended}
+use Rattle.mender.specs.Outcome.{Outcome, answer_by, damaged, judged, mended_to, old_fibres, Answer, mended_with}
 use Rattle.mender.specs.Seen.{Bytes, Passes, Seen, Seen1, Seen2, held}
-use Rattle.mender.specs.declared.Answer.{Answer}
-use Rattle.mender.specs.declared.Answer.TheVariants.{Mended}
 use Rattle.mender.proofs.Leaves.{due, fibre_room, fit, fit_numbered, fit_passes, many_fibres, mend_passes, mend_tells, mend_tells_fibre, of_circuits, one_each, passes_fit, report_room, work_room}
 use Rattle.mender.proofs.Reading.{fibres_read, length_report_bytes, numbered_on, olds_stay, report_read, rest_is}
 
@@ -45,29 +44,34 @@ pub bytes_kept : (area : List ℕ) (m : ℕ) → length area ≡ 8 * m → Bytes
 bytes_kept area m l bytes j h = assignment_written_read (record_at area j) (length_record_at area j (omega arith)) (record_at_bytes area j bytes)
 
 -- AN ANSWER BY A VERDICT t, with lent areas that are changed to `made` only where it accepts
-module _ (t : Verdict) (numbers counts : Counts) (long lines : ℕ) (answer : Answer) (before made after : Lent) (answered : answer ≡ answer_by t numbers long)
+module _ (t : Result ℕ Refusal) (numbers counts : Counts) (long lines : ℕ) (answer : Answer) (before made after : Lent) (answered : answer ≡ answer_by t numbers long)
     (listed : after.fibres ≡ if_accepted t made.fibres before.fibres) (assigned : after.assigns ≡ if_accepted t made.assigns before.assigns)
     (reported : after.report ≡ if_accepted t made.report before.report) (cleared : after.work ≡ if_accepted t made.work before.work) where
   -- a refusal is the verdict's, and changes nothing
-  refused_by : (r : Refusal) → refusal_of answer ≡ some r → (t ≡ refused_with r) × (after ≡ before)
+  refused_by : (r : Refusal) → refusal_in answer ≡ some r → (t ≡ Err r) × (after ≡ before)
   refused_by r e = go t answered listed assigned reported cleared
     where
-      go : (t : Verdict) → answer ≡ answer_by t numbers long → after.fibres ≡ if_accepted t made.fibres before.fibres
+      go : (t : Result ℕ Refusal) → answer ≡ answer_by t numbers long → after.fibres ≡ if_accepted t made.fibres before.fibres
           → after.assigns ≡ if_accepted t made.assigns before.assigns
-          → after.report ≡ if_accepted t made.report before.report → after.work ≡ if_accepted t made.work before.work → (t ≡ refused_with r) × (after ≡ before)
-      go (Checked m) a f g d h = let z = sym (ap refusal_of a) ∙ e in absurd (let y : ◌≡◌ {A = ℕ} 0 1 = cc in omega arith)
-      go (Failed k p q) a f g d h = let z = sym (ap refusal_of a) ∙ e in (cc, λ i. lent_areas (f i) (g i) (d i) (h i))
+          → after.report ≡ if_accepted t made.report before.report → after.work ≡ if_accepted t made.work before.work → (t ≡ Err r) × (after ≡ before)
+      go (Ok m) a f g d h = let z = sym (ap refusal_in a) ∙ e in cc
+      go (Err q) a f g d h = let z = sym (ap refusal_in a) ∙ e in (let y : q ≡ r = cc in ap Err y, λ i. lent_areas (f i) (g i) (d i) (h i))
 
   -- where it is mended the verdict accepts, the numbers are those, and the areas are so made
-  mended_by : answer ≡ Mended counts lines → (m : ℕ) × (t ≡ Checked m) × (counts ≡ numbers) × (lines ≡ long) × (after ≡ made)
+  mended_by : answer ≡ mended_with counts lines → (m : ℕ) × (t ≡ Ok m) × (counts ≡ numbers) × (lines ≡ long) × (after ≡ made)
   mended_by e = go t answered listed assigned reported cleared
     where
-      go : (t : Verdict) → answer ≡ answer_by t numbers long → after.fibres ≡ if_accepted t made.fibres before.fibres
+      go : (t : Result ℕ Refusal) → answer ≡ answer_by t numbers long → after.fibres ≡ if_accepted t made.fibres before.fibres
           → after.assigns ≡ if_accepted t made.assigns before.assigns
           → after.report ≡ if_accepted t made.report before.report → after.work ≡ if_accepted t made.work before.work
-          → (m : ℕ) × (t ≡ Checked m) × (counts ≡ numbers) × (lines ≡ long) × (after ≡ made)
-      go (Checked m) a f g d h = let z : Mended numbers long ≡ Mended counts lines = sym a ∙ e in (m, refl, cc, cc, λ i. lent_areas (f i) (g i) (d i) (h i))
-      go (Failed k p q) a f g d h = let z = sym e ∙ a in absurd (let y : ◌≡◌ {A = ℕ} 0 1 = cc in omega arith)
+          → (m : ℕ) × (t ≡ Ok m) × (counts ≡ numbers) × (lines ≡ long) × (after ≡ made)
+      go (Ok m) a f g d h =
+          let one : Mended = record { counts = numbers; lines = long } in
+          let two : Mended = record { counts = counts; lines = lines } in
+          let z : ◌≡◌ {A = Answer} (Ok one) (Ok two) = sym a ∙ e in
+          let y : two ≡ one = cc in
+          (m, refl, ap (λ (x : Mended). x.counts) y, ap (λ (x : Mended). x.lines) y, λ i. lent_areas (f i) (g i) (d i) (h i))
+      go (Err q) a f g d h = let z = sym e ∙ a in cc
 
 module _ (line : Line) (s : List ℕ) (many : ℕ) (before : Lent) where
   -- the table of refusals
@@ -116,20 +120,20 @@ module _ (line : Line) (s : List ℕ) (many : ℕ) (before : Lent) where
 
   module _ (after : Lent) (answer : Answer) (o : Outcome line s many before after answer) where
     -- a refusal is the verdict's, and changes nothing
-    refused_so : (r : Refusal) → refusal_of answer ≡ some r → (judged line s many before ≡ refused_with r) × (after ≡ before)
+    refused_so : (r : Refusal) → refusal_in answer ≡ some r → (judged line s many before ≡ Err r) × (after ≡ before)
     refused_so = refused_by _ numbers numbers long long answer before mended_areas after o.answered o.listed o.assigned o.reported o.cleared
 
     -- a mended answer has the numbers of the mending, and the areas are written
-    pub mended_so : (counts : Counts) (lines : ℕ) → answer ≡ Mended counts lines → NoneApplies table × (counts ≡ numbers) × (lines ≡ long) × (after ≡ mended_areas)
+    pub mended_so : (counts : Counts) (lines : ℕ) → answer ≡ mended_with counts lines → NoneApplies table × (counts ≡ numbers) × (lines ≡ long) × (after ≡ mended_areas)
     unfolding judged
     mended_so counts lines e =
         let p = mended_by _ numbers counts long lines answer before mended_areas after o.answered o.listed o.assigned o.reported o.cleared e in
         ((verdict_passed table m p.0 p.1).1, p.2, p.3, p.4)
 
     -- what passes the tests is mended
-    pub passed_mended : NoneApplies table → answer ≡ Mended numbers long
+    pub passed_mended : NoneApplies table → answer ≡ mended_with numbers long
     unfolding judged
-    passed_mended f = o.answered ∙ ap (λ (t : Verdict). answer_by t numbers long) (verdict_passes table m f)
+    passed_mended f = o.answered ∙ ap (λ (t : Result ℕ Refusal). answer_by t numbers long) (verdict_passes table m f)
 
     -- demand 1
     pub seen_1 : Seen1 line s many before after answer
@@ -137,7 +141,7 @@ module _ (line : Line) (s : List ℕ) (many : ℕ) (before : Lent) where
     seen_1 =
         record {
           as_tabled = λ r e. verdict_refused table m r (refused_so r e).0;
-          whenever_tabled = λ r g. ap refusal_of (o.answered ∙ ap (λ (t : Verdict). answer_by t numbers long) (verdict_given table m r g));
+          whenever_tabled = λ r g. ap refusal_in (o.answered ∙ ap (λ (t : Result ℕ Refusal). answer_by t numbers long) (verdict_given table m r g));
           otherwise_mended = λ f. (numbers, long, passed_mended f);
           passes_mended = λ p. (numbers, long, passed_mended (passes_none after p));
           end_told = λ r e. (let g = verdict_refused table m r (refused_so r e).0 in (mend_tells line s many before).at g.index r g.below g.here);
@@ -243,7 +247,7 @@ module _ (line : Line) (s : List ℕ) (many : ℕ) (before : Lent) where
           (ap (λ (k : ℕ). plan_in k m after.fibres after.assigns) (ap (λ (c : Counts). c.fibres) e ∙ fibre_count) ∙ plan_read_back)
           (ap₂ report_in (l ∙ promised.lines_are) (ap (λ (x : Lent). x.report) so) ∙ report_read made.report before.report)
 
-  module _ (after : Lent) (answer : Answer) (o : Outcome line s many before after answer) (counts : Counts) (lines : ℕ) (e : answer ≡ Mended counts lines) where
+  module _ (after : Lent) (answer : Answer) (o : Outcome line s many before after answer) (counts : Counts) (lines : ℕ) (e : answer ≡ mended_with counts lines) where
     -- no test applies
     pub passed_so : NoneApplies table
     passed_so = (mended_so after answer o counts lines e).0

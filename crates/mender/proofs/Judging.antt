@@ -1,21 +1,19 @@
 -- The tests of mending in code, and from their verdict to the outcome of `mend`. Assumes nothing.
-use Prim.Native.Nat.{ℕ, ◌+◌, ◌-◌, ◌*◌, ◌/◌, ◌<◌, ◌≤◌}
-use mathlib.Core.Path.{◌≡◌, refl, ap, ◌∙◌, sym}
-use mathlib.Core.Bool.{Bool, cond, false, true}
-use mathlib.Core.Logic.{◌≢◌}
+use Prim.Native.Nat.{ℕ, ◌+◌, ◌-◌, ◌*◌, ◌/◌, ◌≤◌}
+use mathlib.Core.Path.{◌≡◌, refl, ap, ap₂, ◌∙◌, sym}
+use mathlib.Core.Bool.{Bool}
 use mathlib.Core.List.{List, [], ◌∷◌}
 use mathlib.Core.Option.{Option, none, some}
 use native.Mathlib.Omega.{arith}
-use borrow.Author.Tests.{eq-eqb, le-ltb, lt-ltb, ne_eqb}
-use lib.Dec.{ltb}
 use lib.ListN.{drop, length}
+use Rattle.std.specs.Prelude.{Some, None, Result, Ok, Err}
 use Rattle.records.specs.Records.{circuits_of}
 use Rattle.records.specs.declared.Line.{Line}
 use Rattle.records.proofs.Files.{length_circuits_in}
-use Rattle.refusals.specs.declared.Verdict.{Verdict}
-use Rattle.refusals.specs.declared.Verdict.TheVariants.{Checked, Refused as Failed}
+use Rattle.refusals.specs.declared.Reason.TheVariants.{FibreRoom}
+use Rattle.refusals.specs.declared.Refusal.{Refusal}
 use Rattle.refusals.specs.Given.{NoneApplies}
-use Rattle.refusals.specs.Table.{first_record, no_end, row8, tested, verdict, whenever, wherever}
+use Rattle.refusals.specs.Table.{first_record, row8, tested, verdict}
 use Rattle.refusals.proofs.First.{verdict_passed}
 use Rattle.refusals.proofs.Passed.{passed_room}
 use Rattle.refusals.proofs.Pieces.{none_first}
@@ -24,87 +22,53 @@ use Rattle.register.specs.Lists.{assignment_records, behind, fibre_list}
 use Rattle.register.specs.declared.Counts.{Counts}
 use Rattle.planner.specs.Outcome.{if_accepted}
 use Rattle.planner.proofs.Accepting as Tests
-use Rattle.checker.specs.Rules.{Breach, breach_at, faulty, fibre_rules, first_fault, lowest_broken}
+use Rattle.checker.specs.Rules.{breach_at, faulty, fibre_rules, first_fault, lowest_broken}
 use Rattle.checker.specs.Checked.{fault_of, fibres_in}
 use Rattle.checker.specs.declared.rules.Fault.{Fault}
-use Rattle.checker.specs.declared.rules.Fault.TheVariants.{Nothing, Broken}
-use Rattle.checker.proofs.Judging.{loud, silent}
 use Rattle.mending.specs.Mending.{mend_counts, mend_lines}
 use Rattle.mender.specs.Report.{Lent, report_list}
-use Rattle.mender.specs.Table.{mend_table, row16, row20, row23}
-use Rattle.mender.specs.Outcome.{Outcome, answer_by, damaged, judged, mended_to, old_fibres}
-use Rattle.mender.specs.declared.Answer.{Answer}
-use Rattle.mender.specs.declared.Answer.TheVariants.{Refused}
+use Rattle.mender.specs.Table.{mend_table}
+use Rattle.mender.specs.Outcome.{Answer, mended_with, Outcome, answer_by, damaged, judged, mended_to, old_fibres, Answer}
+use Rattle.mender.specs.declared.Mended.{Mended}
 use Rattle.mender.specs.inner.Steps.{MendAsked, Remade}
 use Rattle.mender.proofs.Leaves as Left
 
--- 16. There are other bytes than one record for each
-pub other_refused : (m has x : ℕ) → has ≢ 8 * m → Failed 16 2 0 ≡ tested (row16 m has) x
-other_refused m has x h = sym (ap (λ (b : Bool). tested (wherever 16 no_end (cond b none (some 2))) x) (ne_eqb has (8 * m) h))
-
--- there are just these
-pub each_passed : (m has x : ℕ) → has ≡ 8 * m → Checked x ≡ tested (row16 m has) x
-each_passed m has x h = sym (ap (λ (b : Bool). tested (wherever 16 no_end (cond b none (some 2))) x) (eq-eqb has (8 * m) h))
-
 -- 8 passed, so the old fibres are there
-pub room_there : (many m has z y : ℕ) (t : Verdict) → t ≡ tested (row8 (many + m) has) z → t ≡ Checked y → 8 * many ≤ has
+pub room_there : (many m has z y : ℕ) → tested (row8 (many + m) has) z ≡ Ok y → 8 * many ≤ has
 unfolding verdict
-room_there many m has z y t a b =
-    let r = passed_room 8 (8 * (many + m)) has (none_first _ _ (verdict_passed (row8 (many + m) has ∷ []) z y (sym a ∙ b)).1) in
+room_there many m has z y e =
+    let r = passed_room FibreRoom (8 * (many + m)) has (none_first _ _ (verdict_passed (row8 (many + m) has ∷ []) z y e).1) in
     omega arith
 
--- 23. There is too little room
-pub short_refused : (m has x : ℕ) → has < 12 * m → Failed 23 0 0 ≡ tested (row23 m has) x
-short_refused m has x h = sym (ap (λ (b : Bool). tested (whenever 23 b) x) (lt-ltb has (12 * m) h))
-
--- there is enough
-pub room_passed : (m has x : ℕ) → 12 * m ≤ has → Checked x ≡ tested (row23 m has) x
-room_passed m has x h = sym (ap (λ (b : Bool). tested (whenever 23 b) x) (le-ltb has (12 * m) h))
-
--- 20
-module _ (n many : ℕ) (fibres : List ℕ) (x : ℕ) where
+-- 20, by the first faulty fibre
+module _ (n many : ℕ) (fibres : List ℕ) where
   -- which fibre is faulty
   abbrev is_faulty : ℕ → Bool
   is_faulty i = faulty (fibre_rules n (fibres_in many fibres) i)
 
-  -- what is answered, from whether there are too many
-  answered20 : (b : Bool) → ltb 2048 many ≡ b → tested (cond b (whenever 20 true) (wherever 20 no_end (first_record is_faulty many))) x ≡ tested (row20 n many fibres) x
-  answered20 b e = sym (ap (λ (z : Bool). tested (cond z (whenever 20 true) (wherever 20 no_end (first_record is_faulty many))) x) e)
-
-  -- over 2,048
-  pub many_refused : 2048 < many → Failed 20 0 0 ≡ tested (row20 n many fibres) x
-  many_refused h = answered20 true (lt-ltb 2048 many h)
-
-  -- not so many, and a fibre is faulty
-  pub faulty_refused : (rule place : ℕ) (t : Fault) → many ≤ 2048 → t ≡ fault_of (first_fault (fibre_rules n (fibres_in many fibres)) many) → t ≡ Broken rule place
-      → Failed 20 place 0 ≡ tested (row20 n many fibres) x
+  -- a fibre is
+  pub faulty_place : (f : Fault) → fault_of (first_fault (fibre_rules n (fibres_in many fibres)) many) ≡ Some f → first_record is_faulty many ≡ some f.place
   unfolding first_fault
-  faulty_refused rule place t h e f =
-      go (first_record is_faulty many) (loud (first_fault (fibre_rules n (fibres_in many fibres)) many) t rule place e f)
-      ∙ answered20 false (le-ltb 2048 many h)
+  faulty_place f e = go (first_record is_faulty many) e
     where
-      go : (o : Option ℕ) → breach_at (fibre_rules n (fibres_in many fibres)) o ≡ some (record { rule = rule; place = place })
-          → Failed 20 place 0 ≡ tested (wherever 20 no_end o) x
+      go : (o : Option ℕ) → fault_of (breach_at (fibre_rules n (fibres_in many fibres)) o) ≡ Some f → o ≡ some f.place
       go none q = cc
       go (some p) q =
-          let its : Breach = record { rule = lowest_broken (fibre_rules n (fibres_in many fibres) (p - 1)); place = p } in
-          let told : Breach = record { rule = rule; place = place } in
-          let y : its ≡ told = cc in
-          ap (λ (z : ℕ). Failed 20 z 0) (sym (ap (λ (d : Breach). d.place) y))
+          let its : Fault = record { rule = lowest_broken (fibre_rules n (fibres_in many fibres) (p - 1)); place = p } in
+          let y : its ≡ f = cc in
+          ap (λ (d : Fault). some d.place) y
 
   -- and none is
-  pub fit_passed : (t : Fault) → many ≤ 2048 → t ≡ fault_of (first_fault (fibre_rules n (fibres_in many fibres)) many) → t ≡ Nothing → Checked x ≡ tested (row20 n many fibres) x
+  pub none_faulty : fault_of (first_fault (fibre_rules n (fibres_in many fibres)) many) ≡ None → first_record is_faulty many ≡ none
   unfolding first_fault
-  fit_passed t h e f =
-      go (first_record is_faulty many) (silent (first_fault (fibre_rules n (fibres_in many fibres)) many) t e f)
-      ∙ answered20 false (le-ltb 2048 many h)
+  none_faulty e = go (first_record is_faulty many) e
     where
-      go : (o : Option ℕ) → breach_at (fibre_rules n (fibres_in many fibres)) o ≡ none → Checked x ≡ tested (wherever 20 no_end o) x
+      go : (o : Option ℕ) → fault_of (breach_at (fibre_rules n (fibres_in many fibres)) o) ≡ None → o ≡ none
       go none q = refl
       go (some p) q = cc
 
 -- THE VERDICT
-module _ (line : Line) (s : List ℕ) (many : ℕ) (before : Lent) (t : Verdict) (told : t ≡ verdict (mend_table line s many before) (length s / 8)) where
+module _ (line : Line) (s : List ℕ) (many : ℕ) (before : Lent) (t : Result ℕ Refusal) (told : t ≡ verdict (mend_table line s many before) (length s / 8)) where
   -- the numbers and the lines
   abbrev numbers : Counts
   numbers = mend_counts line.links line.wavelengths (old_fibres many before) (circuits_of s) (damaged s before)
@@ -126,19 +90,19 @@ module _ (line : Line) (s : List ℕ) (many : ℕ) (before : Lent) (t : Verdict)
   work_then = zeroed_to (4 * line.links + 4 * (length s / 8)) before.work
 
   -- a refusal changes nothing
-  pub refused : (number place end : ℕ) → t ≡ Failed number place end → Outcome line s many before before (Refused number place end)
+  pub refused : (r : Refusal) (answer : Answer) → t ≡ Err r → answer ≡ Err r → Outcome line s many before before answer
   unfolding judged
-  refused number place end e =
-      let j : judged line s many before ≡ Failed number place end = sym told ∙ e in
+  refused r answer e f =
+      let j : judged line s many before ≡ Err r = sym told ∙ e in
       record {
-        answered = sym (ap (λ (x : Verdict). answer_by x numbers lines) j);
-        listed = sym (ap (λ (x : Verdict). if_accepted x fibres_then before.fibres) j);
-        assigned = sym (ap (λ (x : Verdict). if_accepted x assigns_then before.assigns) j);
-        reported = sym (ap (λ (x : Verdict). if_accepted x report_then before.report) j);
-        cleared = sym (ap (λ (x : Verdict). if_accepted x work_then before.work) j);
+        answered = f ∙ sym (ap (λ (x : Result ℕ Refusal). answer_by x numbers lines) j);
+        listed = sym (ap (λ (x : Result ℕ Refusal). if_accepted x fibres_then before.fibres) j);
+        assigned = sym (ap (λ (x : Result ℕ Refusal). if_accepted x assigns_then before.assigns) j);
+        reported = sym (ap (λ (x : Result ℕ Refusal). if_accepted x report_then before.report) j);
+        cleared = sym (ap (λ (x : Result ℕ Refusal). if_accepted x work_then before.work) j);
       }
 
-  module _ (found : ℕ) (e : t ≡ Checked found) where
+  module _ (found : ℕ) (e : t ≡ Ok found) where
     -- all tests passed, so no row applies
     none_applies : NoneApplies (mend_table line s many before)
     none_applies = (verdict_passed (mend_table line s many before) (length s / 8) found (sym told ∙ e)).1
@@ -162,14 +126,14 @@ module _ (line : Line) (s : List ℕ) (many : ℕ) (before : Lent) (t : Verdict)
         }
 
     -- and what is remade is the outcome
-    pub mended : (after : Lent) (answer : Answer) → Remade line.links line.wavelengths (length s / 8) many s before after answer → Outcome line s many before after answer
+    pub mended : (after : Lent) (made : Mended) → Remade line.links line.wavelengths (length s / 8) many s before after made → Outcome line s many before after (Ok made)
     unfolding judged
-    mended after answer r =
-        let j : judged line s many before ≡ Checked found = sym told ∙ e in
+    mended after made r =
+        let j : judged line s many before ≡ Ok found = sym told ∙ e in
         record {
-          answered = r.answered ∙ sym (ap (λ (x : Verdict). answer_by x numbers lines) j);
-          listed = r.listed ∙ sym (ap (λ (x : Verdict). if_accepted x fibres_then before.fibres) j);
-          assigned = r.assigned ∙ sym (ap (λ (x : Verdict). if_accepted x assigns_then before.assigns) j);
-          reported = r.reported ∙ sym (ap (λ (x : Verdict). if_accepted x report_then before.report) j);
-          cleared = r.cleared ∙ sym (ap (λ (x : Verdict). if_accepted x work_then before.work) j);
+          answered = ap₂ mended_with r.counted r.lined ∙ sym (ap (λ (x : Result ℕ Refusal). answer_by x numbers lines) j);
+          listed = r.listed ∙ sym (ap (λ (x : Result ℕ Refusal). if_accepted x fibres_then before.fibres) j);
+          assigned = r.assigned ∙ sym (ap (λ (x : Result ℕ Refusal). if_accepted x assigns_then before.assigns) j);
+          reported = r.reported ∙ sym (ap (λ (x : Result ℕ Refusal). if_accepted x report_then before.report) j);
+          cleared = r.cleared ∙ sym (ap (λ (x : Result ℕ Refusal). if_accepted x work_then before.work) j);
         }

@@ -15,7 +15,9 @@ use Rattle.records.specs.declared.FibreRecord.{FibreRecord}
 use Rattle.records.specs.declared.Line.{Line}
 use Rattle.records.proofs.Files.{circuits_in_at, length_circuits_in}
 use Rattle.method.specs.Line.{Fibre, circuit, nobody}
-use Rattle.refusals.specs.Refusals.{Refusal}
+use Rattle.refusals.specs.declared.Reason.TheVariants.{NumberZero, FibreRoom, WorkRoom, PartList, UnfitFibres, ReportRoom}
+use Rattle.refusals.specs.Refusals.{number_of}
+use Rattle.refusals.specs.declared.Refusal.{Refusal}
 use Rattle.refusals.specs.Table.{Row, area_rows, bad_ends, circuit_rows, file_rows, first_record, line_rows, no_end, plan_table, record_rows, whenever, wherever}
 use Rattle.refusals.specs.Given.{InOrder, NoneApplies}
 use Rattle.refusals.specs.Ends.{TellsEnd}
@@ -47,7 +49,7 @@ use Rattle.mender.specs.Seen.{FibreTold, FibresFit}
 passed16 : (m has : ℕ) → row16 m has ≡ none → has ≡ 8 * m
 passed16 m has e = eqb-true has (8 * m) (go (eqb has (8 * m)) e)
   where
-    go : (b : Bool) → wherever 16 no_end (cond b none (some 2)) ≡ none → b ≡ true
+    go : (b : Bool) → wherever PartList no_end (cond b none (some 2)) ≡ none → b ≡ true
     go true e = refl
     go false e = cc
 
@@ -57,7 +59,7 @@ unfolding plan_in
 many_fibres many m fibres assigns = length_each (λ i. span_of (fibre_of (record_at fibres i))) 0 many
 
 -- rows that give lower numbers do not give 20
-others : (P : Refusal → Type 0) (xs : List ℕ) (rows : List Row) → InOrder xs rows → Each (λ x. x < 20) xs → EachGives (λ r. r.number ≡ 20 → P r) rows
+others : (P : Refusal → Type 0) (xs : List ℕ) (rows : List Row) → InOrder xs rows → Each (λ x. x < 20) xs → EachGives (λ r. number_of r.reason ≡ 20 → P r) rows
 others P [] [] o h = each_end _
 others P [] (row ∷ rows) o h = absurd o
 others P (x ∷ xs) [] o h = absurd o
@@ -73,7 +75,7 @@ module _ (n many : ℕ) (fibres : List ℕ) where
   pub passes_fit : row20 n many fibres ≡ none → FibresFit n many fibres
   passes_fit e = go (ltb 2048 many) refl e
     where
-      go : (b : Bool) → ltb 2048 many ≡ b → cond b (whenever 20 true) (wherever 20 no_end (first_record (λ i. faulty (fibre_rules n (fibres_in many fibres) i)) many)) ≡ none
+      go : (b : Bool) → ltb 2048 many ≡ b → cond b (whenever UnfitFibres true) (wherever UnfitFibres no_end (first_record (λ i. faulty (fibre_rules n (fibres_in many fibres) i)) many)) ≡ none
           → FibresFit n many fibres
       go true q e = absurd (let z : ◌≡◌ {A = ℕ} 0 1 = cc in omega arith)
       go false q e =
@@ -82,7 +84,7 @@ module _ (n many : ℕ) (fibres : List ℕ) where
             sound = λ i h.
                 let rs = fibre_rules n (fibres_in many fibres) in
                 lowest_none (rs i) (rising_numbered (rs i) (fibres_rise n (fibres_in many fibres) i))
-                (is_sound (rs i) (record_none (λ i. faulty (rs i)) many (wherever_none 20 no_end _ e) i h));
+                (is_sound (rs i) (record_none (λ i. faulty (rs i)) many (wherever_none UnfitFibres no_end _ e) i h));
           }
 
   -- what 20 tells of those that are not fit
@@ -90,7 +92,7 @@ module _ (n many : ℕ) (fibres : List ℕ) where
   unfolding first_fault
   told_fibre r e = go (ltb 2048 many) refl e
     where
-      found : (o : Option ℕ) → first_record (λ i. faulty (fibre_rules n (fibres_in many fibres) i)) many ≡ o → wherever 20 no_end o ≡ some r
+      found : (o : Option ℕ) → first_record (λ i. faulty (fibre_rules n (fibres_in many fibres) i)) many ≡ o → wherever UnfitFibres no_end o ≡ some r
           → (b : Breach) × (b.place ≡ r.place) × FirstFault (fibre_rules n (fibres_in many fibres)) many b
       found none f e = absurd (let z : ◌≡◌ {A = ℕ} 0 1 = cc in omega arith)
       found (some place) f e =
@@ -99,7 +101,7 @@ module _ (n many : ℕ) (fibres : List ℕ) where
           let p : place ≡ r.place = cc in
           (b, p, first_faulty rules (fibres_rise n (fibres_in many fibres)) many b (ap (breach_at rules) f))
 
-      go : (b : Bool) → ltb 2048 many ≡ b → cond b (whenever 20 true) (wherever 20 no_end (first_record (λ i. faulty (fibre_rules n (fibres_in many fibres) i)) many)) ≡ some r
+      go : (b : Bool) → ltb 2048 many ≡ b → cond b (whenever UnfitFibres true) (wherever UnfitFibres no_end (first_record (λ i. faulty (fibre_rules n (fibres_in many fibres) i)) many)) ≡ some r
           → FibreTold n many fibres r.place
       go true q e = let p : r.place ≡ 0 = cc in inl (ltb-true 2048 many q, p)
       go false q e = let y = found _ refl e in inr (ltb-false 2048 many q, y.0, y.1, y.2)
@@ -139,12 +141,12 @@ module _ (line : Line) (s : List ℕ) (many : ℕ) (lent : Lent) where
     -- there is room behind the fibres
     pub fibre_room : 8 * (many + m) ≤ length lent.fibres
     unfolding lent_rows
-    fibre_room = passed_room 8 (8 * (many + m)) (length lent.fibres) (none_first _ _ of_lent)
+    fibre_room = passed_room FibreRoom (8 * (many + m)) (length lent.fibres) (none_first _ _ of_lent)
 
     -- in the work area
     pub work_room : 4 * line.links + 4 * m ≤ length lent.work
     unfolding lent_rows
-    work_room = passed_room 10 (4 * line.links + 4 * m) (length lent.work) (none_first _ _ (none_rest _ _ of_lent))
+    work_room = passed_room WorkRoom (4 * line.links + 4 * m) (length lent.work) (none_first _ _ (none_rest _ _ of_lent))
 
     -- there is one assignment record for each circuit
     pub one_each : length lent.assigns ≡ 8 * m
@@ -159,7 +161,7 @@ module _ (line : Line) (s : List ℕ) (many : ℕ) (lent : Lent) where
     -- and the report has room for a line for each circuit
     pub report_room : 12 * m ≤ length lent.report
     unfolding lent_rows
-    report_room = passed_room 23 (12 * m) (length lent.report) (none_first _ _ (none_rest _ _ (none_rest _ _ (none_rest _ _ (none_rest _ _ of_lent)))))
+    report_room = passed_room ReportRoom (12 * m) (length lent.report) (none_first _ _ (none_rest _ _ (none_rest _ _ (none_rest _ _ (none_rest _ _ of_lent)))))
 
     -- no circuit number is 0
     from_one : (j : ℕ) → j < length (circuits_of s) → 1 ≤ number (circuits_of s) j
@@ -167,7 +169,7 @@ module _ (line : Line) (s : List ℕ) (many : ℕ) (lent : Lent) where
     from_one j h =
         let b : j < m = omega (arith, length_circuits_in m s) in
         let five = none_first _ _ (Tests.of_records line s of_circuits) in
-        let z : number_in s j ≢ 0 = eqb-false (number_in s j) 0 (record_none (λ i. eqb (number_in s i) 0) m (wherever_none 5 no_end _ five) j b) in
+        let z : number_in s j ≢ 0 = eqb-false (number_in s j) 0 (record_none (λ i. eqb (number_in s i) 0) m (wherever_none NumberZero no_end _ five) j b) in
         let e : (get_or (circuits_of s) j nobody).number ≡ number_in s j = ap (λ c. c.number) (circuits_in_at m s j nobody b) in
         omega arith
 
@@ -187,16 +189,16 @@ module _ (line : Line) (s : List ℕ) (many : ℕ) (lent : Lent) where
   unfolding mend_table lent_rows
   mend_passes p x y z f r =
       none_both (circuit_rows line s) _ p
-      (none_more _ _ (passes_room 8 (8 * (many + m)) (length lent.fibres) x)
-      (none_more _ _ (passes_room 10 (4 * line.links + 4 * m) (length lent.work) y)
-      (none_more _ _ (ap (λ (b : Bool). wherever 16 no_end (cond b none (some 2))) (eq-eqb (length lent.assigns) (8 * m) z))
+      (none_more _ _ (passes_room FibreRoom (8 * (many + m)) (length lent.fibres) x)
+      (none_more _ _ (passes_room WorkRoom (4 * line.links + 4 * m) (length lent.work) y)
+      (none_more _ _ (ap (λ (b : Bool). wherever PartList no_end (cond b none (some 2))) (eq-eqb (length lent.assigns) (8 * m) z))
       (none_more _ _ (fit_passes line.links many lent.fibres f)
-      (none_more _ _ (passes_room 23 (12 * m) (length lent.report) r) none_end)))))
+      (none_more _ _ (passes_room ReportRoom (12 * m) (length lent.report) r) none_end)))))
 
   -- 20 tells no end
-  twenty_tells : (b : Bool) (o : Option ℕ) (r : Refusal) → cond b (whenever 20 true) (wherever 20 no_end o) ≡ some r → TellsEnd line.links m s r
-  twenty_tells true o = whole_tells line.links m s 20 true (λ z. omega arith)
-  twenty_tells false o = each_tells line.links m s 20 o (λ z. omega arith)
+  twenty_tells : (b : Bool) (o : Option ℕ) (r : Refusal) → cond b (whenever UnfitFibres true) (wherever UnfitFibres no_end o) ≡ some r → TellsEnd line.links m s r
+  twenty_tells true o = whole_tells line.links m s UnfitFibres true (λ z. omega arith)
+  twenty_tells false o = each_tells line.links m s UnfitFibres o (λ z. omega arith)
 
   -- refusal 6 tells the wrong end as that of `plan` does, and no other refusal tells one
   pub mend_tells : EachGives (TellsEnd line.links m s) (mend_table line s many lent)
@@ -206,28 +208,28 @@ module _ (line : Line) (s : List ℕ) (many : ℕ) (lent : Lent) where
       let P : Refusal → Type 0 = TellsEnd n m s in
       let whole = whole_tells n m s in
       each_both P (circuit_rows line s) _ (circuits_tell line s)
-      (each_more P _ _ (whole 8 (ltb (length lent.fibres) (8 * (many + m))) (λ z. omega arith))
-      (each_more P _ _ (whole 10 (ltb (length lent.work) (4 * n + 4 * m)) (λ z. omega arith))
-      (each_more P _ _ (each_tells n m s 16 (cond (eqb (length lent.assigns) (8 * m)) none (some 2)) (λ z. omega arith))
+      (each_more P _ _ (whole FibreRoom (ltb (length lent.fibres) (8 * (many + m))) (λ z. omega arith))
+      (each_more P _ _ (whole WorkRoom (ltb (length lent.work) (4 * n + 4 * m)) (λ z. omega arith))
+      (each_more P _ _ (each_tells n m s PartList (cond (eqb (length lent.assigns) (8 * m)) none (some 2)) (λ z. omega arith))
       (each_more P _ _ (twenty_tells (ltb 2048 many) (first_record (λ i. faulty (fibre_rules n (fibres_in many lent.fibres) i)) many))
-      (each_more P _ _ (whole 23 (ltb (length lent.report) (12 * m)) (λ z. omega arith))
+      (each_more P _ _ (whole ReportRoom (ltb (length lent.report) (12 * m)) (λ z. omega arith))
       (each_end P))))))
 
   -- 20 gives 20
-  twenty_gives : (b : Bool) (o : Option ℕ) (r : Refusal) → cond b (whenever 20 true) (wherever 20 no_end o) ≡ some r → r.number ≡ 20
-  twenty_gives true o = whenever_gives 20 true
-  twenty_gives false o = wherever_gives 20 no_end o
+  twenty_gives : (b : Bool) (o : Option ℕ) (r : Refusal) → cond b (whenever UnfitFibres true) (wherever UnfitFibres no_end o) ≡ some r → number_of r.reason ≡ 20
+  twenty_gives true o = whenever_gives UnfitFibres true
+  twenty_gives false o = wherever_gives UnfitFibres no_end o
 
   -- the lent lists and areas
   lent_in_order : InOrder (8 ∷ 10 ∷ 16 ∷ 20 ∷ 23 ∷ []) (lent_rows line.links m many lent)
   unfolding lent_rows
   lent_in_order =
       let n = line.links in
-      let eight = whenever_gives 8 (ltb (length lent.fibres) (8 * (many + m))) in
-      let ten = whenever_gives 10 (ltb (length lent.work) (4 * n + 4 * m)) in
-      let sixteen = wherever_gives 16 no_end (cond (eqb (length lent.assigns) (8 * m)) none (some 2)) in
+      let eight = whenever_gives FibreRoom (ltb (length lent.fibres) (8 * (many + m))) in
+      let ten = whenever_gives WorkRoom (ltb (length lent.work) (4 * n + 4 * m)) in
+      let sixteen = wherever_gives PartList no_end (cond (eqb (length lent.assigns) (8 * m)) none (some 2)) in
       let twenty = twenty_gives (ltb 2048 many) (first_record (λ i. faulty (fibre_rules n (fibres_in many lent.fibres) i)) many) in
-      (eight, (ten, (sixteen, (twenty, (whenever_gives 23 (ltb (length lent.report) (12 * m)), tt)))))
+      (eight, (ten, (sixteen, (twenty, (whenever_gives ReportRoom (ltb (length lent.report) (12 * m)), tt)))))
 
   -- those of the circuits
   circuits_in_order : InOrder (1 ∷ 2 ∷ 3 ∷ 12 ∷ 4 ∷ 5 ∷ 6 ∷ 7 ∷ []) (circuit_rows line s)
@@ -245,11 +247,11 @@ module _ (line : Line) (s : List ℕ) (many : ℕ) (lent : Lent) where
       circuits_in_order lent_in_order
 
   -- where 20 is given, it tells its fibre
-  pub mend_tells_fibre : EachGives (λ r. r.number ≡ 20 → FibreTold line.links many lent.fibres r.place) (mend_table line s many lent)
+  pub mend_tells_fibre : EachGives (λ r. number_of r.reason ≡ 20 → FibreTold line.links many lent.fibres r.place) (mend_table line s many lent)
   unfolding mend_table lent_rows
   mend_tells_fibre =
       let P : Refusal → Type 0 = λ r. FibreTold line.links many lent.fibres r.place in
-      let Q : Refusal → Type 0 = λ r. r.number ≡ 20 → P r in
+      let Q : Refusal → Type 0 = λ r. number_of r.reason ≡ 20 → P r in
       let o = lent_in_order in
       each_both Q (circuit_rows line s) _
       (others P (1 ∷ 2 ∷ 3 ∷ 12 ∷ 4 ∷ 5 ∷ 6 ∷ 7 ∷ []) (circuit_rows line s) circuits_in_order

@@ -1,7 +1,7 @@
 -- The lines of the report, begun one after the other, and filled in. Assumes nothing.
 use Prim.Native.Nat.{ℕ, zero, suc, ◌+◌, ◌*◌, ◌/◌, ◌%◌, ◌<◌, ◌≤◌}
 use mathlib.Core.Path.{◌≡◌, refl, ap, ap₂, ◌∙◌, sym}
-use mathlib.Core.Bool.{Bool, cond}
+use mathlib.Core.Bool.{Bool, cond, false, true}
 use mathlib.Core.List.{List, [], ◌∷◌, ◌++◌, append_assoc, append-nil, map}
 use native.Mathlib.Nat.{zero-add}
 use native.Mathlib.Omega.{arith}
@@ -165,45 +165,45 @@ pub noting_none : (who : ℕ → Bool) (f : ℕ → ReportLine) (P turns report 
 unfolding passing report_bytes
 noting_none who f P turns report = record { many = refl; few = omega arith; noted = refl; begun = refl }
 
--- one more is asked
-pub noting_more : (who : ℕ → Bool) (f : ℕ → ReportLine) (P : List ℕ) (t k r j : ℕ) (turns turns' report₀ report report' : List ℕ)
-    → t < length P → j ≡ get_or P t 0 → 2 * k + 2 ≤ length turns → r ≡ cond (who j) (k + 1) k → turns' ≡ cond (who j) (set_cell turns k j) turns → report' ≡ cond (who j) (put_line report k (line_bytes (f j))) report
-    → Noting who f P t k turns report₀ report → Noting who f P (t + 1) r turns' report₀ report'
-unfolding put_line
-noting_more who f P t k r j turns turns' report₀ report report' h e room is-r is-turns is-report g =
-    let z : suc t ≡ t + 1 = omega arith in
-    let done = passing who (take t P) in
-    let C = cells_of turns in
-    let here : k < length C = omega (arith, cells_room turns (k + 1) (omega arith)) in
-    let few = g.few in
-    let next : passing who (take (t + 1) P) ≡ done ++ cond (who j) (j ∷ []) [] =
-    ap (λ x. passing who (take x P)) (sym z) ∙ ap (passing who) (take-suc P t 0 h ∙ ap (λ x. take t P ++ (x ∷ [])) (sym e)) ∙ passing_more who (take t P) j in
-    on (who j)
-    (λ yes.
-    let next₁ : passing who (take (t + 1) P) ≡ done ++ (j ∷ []) = next ∙ ap (λ b. done ++ cond b (j ∷ []) []) yes in
-    let r₁ : r ≡ k + 1 = is-r ∙ ap (λ b. cond b (k + 1) k) yes in
-    let c₁ : cells_of turns' ≡ set C k j = ap cells_of (is-turns ∙ ap (λ b. cond b (set_cell turns k j) turns) yes) ∙ cells_of_set turns k j in
-    let y : suc k ≡ k + 1 = omega arith in
-    let x : 12 * k + 12 ≡ 12 * (k + 1) = omega arith in
-    let A = report_bytes (map f done) in
-    let n : length A ≡ 12 * k = length_report_bytes (map f done) ∙ ap (λ i. 12 * i) (length-map done f ∙ sym g.many) in
-    record {
-      many = r₁ ∙ omega (arith, ap length next₁, length-append done (j ∷ []), g.many);
-      few = omega arith;
-      noted = ap₂ take (r₁ ∙ sym y) c₁ ∙ take-suc (set C k j) k 0 (omega (arith, length-set C k j))
-          ∙ ap₂ (λ a v. a ++ (v ∷ [])) (take-set-le k C k j (omega arith) ∙ g.noted) (get_or-set_same C k j 0 here) ∙ sym next₁;
-      begun = is-report ∙ ap (λ b. cond b (take (12 * k) report ++ (line_bytes (f j) ++ drop (12 * k + 12) report)) report) yes
-          ∙ ap (λ a. take (12 * k) a ++ (line_bytes (f j) ++ drop (12 * k + 12) a)) g.begun
-          ∙ block_more A (line_bytes (f j)) report₀ (12 * k) (12 * k + 12) n refl
-          ∙ ap₂ (λ a i. a ++ drop i report₀) (sym (report_more f done j) ∙ ap (λ i. report_bytes (map f i)) (sym next₁)) (x ∙ ap (λ i. 12 * i) (sym r₁));
-    })
-    (λ no.
-    let next₁ : passing who (take (t + 1) P) ≡ done = next ∙ ap (λ b. done ++ cond b (j ∷ []) []) no ∙ append-nil done in
-    let r₁ : r ≡ k = is-r ∙ ap (λ b. cond b (k + 1) k) no in
-    record {
-      many = r₁ ∙ g.many ∙ ap length (sym next₁);
-      few = omega arith;
-      noted = ap₂ take r₁ (ap cells_of (is-turns ∙ ap (λ b. cond b (set_cell turns k j) turns) no)) ∙ g.noted ∙ sym next₁;
-      begun = is-report ∙ ap (λ b. cond b (take (12 * k) report ++ (line_bytes (f j) ++ drop (12 * k + 12) report)) report) no ∙ g.begun
-          ∙ ap₂ (λ a i. report_bytes (map f a) ++ drop (12 * i) report₀) (sym next₁) (sym r₁);
-    })
+-- ONE MORE IS ASKED, circuit j
+module _ (who : ℕ → Bool) (f : ℕ → ReportLine) (P : List ℕ) (t k j : ℕ) (turns report₀ report : List ℕ) (h : t < length P) (e : j ≡ get_or P t 0) (g : Noting who f P t k turns report₀ report) where
+  next : passing who (take (t + 1) P) ≡ passing who (take t P) ++ cond (who j) (j ∷ []) []
+  next =
+      let z : suc t ≡ t + 1 = omega arith in
+      ap (λ x. passing who (take x P)) (sym z) ∙ ap (passing who) (take-suc P t 0 h ∙ ap (λ x. take t P ++ (x ∷ [])) (sym e)) ∙ passing_more who (take t P) j
+
+  -- it waits, and is noted
+  pub noting_line : who j ≡ true → 2 * k + 2 ≤ length turns → Noting who f P (t + 1) (k + 1) (set_cell turns k j) report₀ (put_line report k (line_bytes (f j)))
+  unfolding put_line
+  noting_line w room =
+      let done = passing who (take t P) in
+      let C = cells_of turns in
+      let here : k < length C = omega (arith, cells_room turns (k + 1) (omega arith)) in
+      let few = g.few in
+      let next₁ : passing who (take (t + 1) P) ≡ done ++ (j ∷ []) = next ∙ ap (λ b. done ++ cond b (j ∷ []) []) w in
+      let c₁ : cells_of (set_cell turns k j) ≡ set C k j = cells_of_set turns k j in
+      let y : suc k ≡ k + 1 = omega arith in
+      let x : 12 * k + 12 ≡ 12 * (k + 1) = omega arith in
+      let A = report_bytes (map f done) in
+      let n : length A ≡ 12 * k = length_report_bytes (map f done) ∙ ap (λ i. 12 * i) (length-map done f ∙ sym g.many) in
+      record {
+        many = omega (arith, ap length next₁, length-append done (j ∷ []), g.many);
+        few = omega arith;
+        noted = ap₂ take (sym y) c₁ ∙ take-suc (set C k j) k 0 (omega (arith, length-set C k j))
+            ∙ ap₂ (λ a v. a ++ (v ∷ [])) (take-set-le k C k j (omega arith) ∙ g.noted) (get_or-set_same C k j 0 here) ∙ sym next₁;
+        begun = ap (λ a. take (12 * k) a ++ (line_bytes (f j) ++ drop (12 * k + 12) a)) g.begun
+            ∙ block_more A (line_bytes (f j)) report₀ (12 * k) (12 * k + 12) n refl
+            ∙ ap₂ (λ a i. a ++ drop i report₀) (sym (report_more f done j) ∙ ap (λ i. report_bytes (map f i)) (sym next₁)) x;
+      }
+
+  -- it does not
+  pub noting_kept : who j ≡ false → Noting who f P (t + 1) k turns report₀ report
+  noting_kept w =
+      let few = g.few in
+      let next₁ : passing who (take (t + 1) P) ≡ passing who (take t P) = next ∙ ap (λ b. passing who (take t P) ++ cond b (j ∷ []) []) w ∙ append-nil (passing who (take t P)) in
+      record {
+        many = g.many ∙ ap length (sym next₁);
+        few = omega arith;
+        noted = g.noted ∙ sym next₁;
+        begun = g.begun ∙ ap (λ a. report_bytes (map f a) ++ drop (12 * k) report₀) (sym next₁);
+      }

@@ -31,18 +31,16 @@ use Rattle.mending.specs.Mending.{no_record, record_of}
 use Rattle.mending.specs.MendDemands.{Permuted}
 use Rattle.mender.specs.Report.{Lent, report_bytes}
 use Rattle.mender.specs.Table.{mend_table}
-use Rattle.mender.specs.Outcome.{Outcome, damaged, mended_to, old_fibres}
+use Rattle.mender.specs.Outcome.{Outcome, damaged, mended_to, old_fibres, Answer, mended_with}
 use Rattle.mender.specs.Seen.{FibresFit}
 use Rattle.mender.specs.Mendings.{SameMending, TwoMendings}
-use Rattle.mender.specs.declared.Answer.{Answer}
-use Rattle.mender.specs.declared.Answer.TheVariants.{Mended}
 use Rattle.mender.proofs.Leaves.{due, fibre_room, fit, mend_passes, mendable, of_circuits, one_each, report_room, work_room}
 use Rattle.mender.proofs.Reading.{records_are}
 use Rattle.mender.proofs.Answers.{added, added_room, all_fibres, assignment_at_lem, counts_are, lines_are, made_so, numbers, passed_mended, passed_so, report_is, report_long}
 
 -- WHAT A CALL LEAVES AT THE START OF ITS FIBRE LIST AND OF ITS REPORT
 module _ (line : Line) (s : List ℕ) (many : ℕ) (before after : Lent) (answer : Answer) (o : Outcome line s many before after answer)
-    (counts : Counts) (lines : ℕ) (e : answer ≡ Mended counts lines) where
+    (counts : Counts) (lines : ℕ) (e : answer ≡ mended_with counts lines) where
   -- the old fibre records and those that are added
   fibre_start : take (8 * counts.fibres) after.fibres ≡ take (8 * many) before.fibres ++ fibre_records many (added line s many before)
   fibre_start =
@@ -58,7 +56,7 @@ module _ (line : Line) (s : List ℕ) (many : ℕ) (before after : Lent) (answer
 
 -- TWO CALLS
 module _ (line : Line) (many : ℕ) (s s' : List ℕ) (before after before' after' : Lent) (answer answer' : Answer)
-    (calls : TwoMendings line many s s' before after before' after' answer answer') (counts : Counts) (lines : ℕ) (e : answer ≡ Mended counts lines) where
+    (calls : TwoMendings line many s s' before after before' after' answer answer') (counts : Counts) (lines : ℕ) (e : answer ≡ mended_with counts lines) where
   -- the circuits of both
   abbrev cs : List Circuit
   cs = circuits_of s
@@ -137,7 +135,7 @@ module _ (line : Line) (many : ℕ) (s s' : List ℕ) (before after before' afte
       ∙ ap (λ (fs : List Fibre). (Lists.mend line.links line.wavelengths fs cs' (damaged s' before')).report) (sym fibres_alike)
 
   -- the second call is mended, with the same numbers
-  mended_too : answer' ≡ Mended counts lines
+  mended_too : answer' ≡ mended_with counts lines
   mended_too =
       let d = due line s many before passed in
       let d' = due line s' many before' passed' in
@@ -146,7 +144,7 @@ module _ (line : Line) (many : ℕ) (s s' : List ℕ) (before after before' afte
       let r = d'.floor_is ∙ sym alike.floor_same ∙ sym d.floor_is in
       let same : numbers line s' many before' ≡ numbers line s many before = λ i. record { fibres = p i; total = q i; floor = r i } in
       passed_mended line s' many before' after' answer' calls.two passed'
-      ∙ ap₂ Mended
+      ∙ ap₂ mended_with
       (same ∙ sym (counts_are line s many before after answer calls.one counts lines e))
       (d'.lines_are ∙ ap length (sym reports_alike) ∙ sym d.lines_are ∙ sym (lines_are line s many before after answer calls.one counts lines e))
 

@@ -4,8 +4,7 @@ use mathlib.Core.List.{List}
 use mathlib.Core.Path.{◌∙◌, ◌≡◌, sym}
 use Rattle.records.specs.declared.Line.{Line}
 use Rattle.mender.specs.Report.{Lent}
-use Rattle.mender.specs.Outcome.{Outcome}
-use Rattle.mender.specs.declared.Answer.{Answer}
+use Rattle.mender.specs.Outcome.{Outcome, Answer}
 
 -- areas that hold the same bytes
 same_areas : (x y : Lent) → x.fibres ≡ y.fibres → x.assigns ≡ y.assigns → x.report ≡ y.report → x.work ≡ y.work → x ≡ y

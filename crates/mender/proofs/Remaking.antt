@@ -38,8 +38,7 @@ use Rattle.placing.specs.Riding.{spans_of}
 use Rattle.placing.specs.Turns.{AllWritten}
 use Rattle.parts.specs.Left.{LeftAsked, LeftSettled, said_behind}
 use Rattle.mender.specs.Report.{lent_areas, report_bytes, report_list}
-use Rattle.mender.specs.declared.Answer.{Answer}
-use Rattle.mender.specs.declared.Answer.TheVariants.{Mended}
+use Rattle.mender.specs.declared.Mended.{Mended}
 use Rattle.mender.specs.inner.Lines.{begun_line, filled_line}
 use Rattle.mender.specs.inner.Steps.{MendAsked, Refilled, Remade, lost}
 use Rattle.mender.proofs.Leaves.{many_fibres}
@@ -227,12 +226,11 @@ module _ (n w m many : ℕ) (s F A R W : List ℕ) (h : MendAsked n w m many s (
     )
 
     -- WHAT IS LEFT is the mending
-    pub all_remade : (R' : List ℕ) (span low : ℕ) (answer : Answer) → span ≡ length_in (fibres_in many F) → low ≡ floor n w cs → drop (4 * n + 4 * m) W₁ ≡ drop (4 * n + 4 * m) W
+    pub all_remade : (R' : List ℕ) (span low : ℕ) → span ≡ length_in (fibres_in many F) → low ≡ floor n w cs → drop (4 * n + 4 * m) W₁ ≡ drop (4 * n + 4 * m) W
         → R' ≡ report_bytes (map (filled_line s A A') L) ++ drop (12 * length (map (begun_line s A) L)) R
-        → answer ≡ Mended (numbers (many + counts.fibres) (span + counts.total) low) lines
-        → Remade n w m many s (lent_areas F A R W) (lent_areas F' A' R' W') answer
+        → Remade n w m many s (lent_areas F A R W) (lent_areas F' A' R' W') (let t : Mended = record { counts = numbers (many + counts.fibres) (span + counts.total) low; lines = lines } in t)
     unfolding mend mended_plan mend_counts mend_lines counts_of zeroed_to report_list spans_of plan_in
-    all_remade R' span low answer long is-floor rest is-report is-answer =
+    all_remade R' span low long is-floor rest is-report =
         let old = many_fibres many 0 F A in
         let t : span ≡ total fs = long ∙ old_total many F A in
         let z : 0 + m ≡ m = zero-add m in
@@ -241,11 +239,10 @@ module _ (n w m many : ℕ) (s F A R W : List ℕ) (h : MendAsked n w m many s (
         (each_of (λ j. filled_line s A A' j ≡ line_of n w fs cs rs j) L (λ t l. line_is (get_or L t 0) (lost_there n w m many s F A h.register t l))) in
         let many-lines : lines ≡ length (map (line_of n w fs cs rs) L) = y.many_lost ∙ sym (length-map L (line_of n w fs cs rs)) in
         record {
-          answered = is-answer
-              ∙ ap₂ Mended
-              (ap₂ (λ x v. numbers x v low) (ap₂ ◌+◌ (sym old) new_many ∙ sym (length-append fs fresh)) (ap₂ ◌+◌ t new_long ∙ sym (total_both fs fresh))
-              ∙ ap (numbers (length (fs ++ fresh)) (total (fs ++ fresh))) is-floor)
-              many-lines;
+          counted =
+              ap₂ (λ x v. numbers x v low) (ap₂ ◌+◌ (sym old) new_many ∙ sym (length-append fs fresh)) (ap₂ ◌+◌ t new_long ∙ sym (total_both fs fresh))
+              ∙ ap (numbers (length (fs ++ fresh)) (total (fs ++ fresh))) is-floor;
+          lined = many-lines;
           listed = g.listed ∙ ap (λ x. behind (8 * many) (fibre_list many x) F) (ap (λ x. (left_plan n w cs x).fibres) said ∙ sym (drop_at fs fresh many old));
           assigned = records_are;
           reported = is-report

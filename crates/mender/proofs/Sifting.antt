@@ -5,11 +5,10 @@ use mathlib.Core.Bool.{Bool, cond, true, false, not, ◌&&◌}
 use mathlib.Core.Logic.{◌≢◌, inl, inr, ⊎_elim}
 use mathlib.Core.List.{List, [], ◌∷◌, ◌++◌, map}
 use native.Mathlib.Omega.{arith}
-use borrow.Rule.Slice.PartMut.{mid_of, post_of, put_mid}
 use borrow.Author.Tests.{eq-eqb, leb-true, ne_eqb, not-false}
 use lib.Dec.{eqb, leb}
-use lib.ListN.{drop, drop_of_length-le, get_or, length, length-append, length-map, length-replicate, replicate, set, take}
-use lib.Seq.{ext_get_or, get_or-set_other, set-get_or, take_at}
+use lib.ListN.{drop, drop_of_length-le, get_or, length, length-map, length-replicate, replicate, set, take}
+use lib.Seq.{ext_get_or, get_or-set_other, set-get_or}
 use Rattle.basics.proofs.Bools.{and_l, and_r, by_eq, clash, on}
 use Rattle.basics.proofs.Tables.{zeros_at}
 use Rattle.records.specs.Bytes.{cells_of}
@@ -25,11 +24,11 @@ use Rattle.places.specs.Places.{free, given_to, riders}
 use Rattle.places.specs.Turns.{by_number, in_turn, number}
 use Rattle.places.proofs.RisingLaws.{Each, Rise, each_at, rise_at, rising_are, rising_rise, turn_of_lem}
 use Rattle.additions.specs.Adding.{unplaced}
-use Rattle.checker.specs.Rules.{Rule, faulty, fibre_at, lowest_broken, own_rules}
+use Rattle.checker.specs.Rules.{Rule, faulty, fibre_at, own_rules}
 use Rattle.checker.specs.Sound.{NoneBroken}
 use Rattle.checker.specs.Checked.{assignments_in, fibres_in}
 use Rattle.checker.specs.inner.Runs.{own_rules_in}
-use Rattle.checker.proofs.Faults.{faulty_is, lowest_none, rising_numbered, sound_is}
+use Rattle.checker.proofs.Faults.{is_sound, lowest_none, rising_numbered}
 use Rattle.checker.proofs.Reading.{assignments_in_at, length_fibres_in, map_each}
 use Rattle.mending.specs.Mending.{keepable, keeps, kept, no_record, record_of, sound}
 use Rattle.placing.specs.Riding.{Among, Given, GivenKept, Riding, kept_in, spans_of}
@@ -74,26 +73,26 @@ module _ (w m many : ℕ) (s fibres assigns : List ℕ) where
         free (riders (circuits_in m s) gs) (circuit (circuits_in m s) j) (record_of (assignments_in m assigns) j).fibre (record_of (assignments_in m assigns) j).wavelength
 
     -- one that breaks a rule may not stay
-    pub broken_leaves : lowest_broken (own j) ≢ 0 → may_stay w m many s fibres assigns gs j ≡ false
+    pub broken_leaves : faulty (own j) ≡ true → may_stay w m many s fibres assigns gs j ≡ false
     unfolding keepable
-    broken_leaves e = ap (λ (b : Bool). b && free_there) (sound_read j h ∙ ap not (faulty_is (own j) e))
+    broken_leaves e = ap (λ (b : Bool). b && free_there) (sound_read j h ∙ ap not e)
 
     -- one that breaks none may if its wavelength is free
-    pub free_stays : (r : Bool) → lowest_broken (own j) ≡ 0
+    pub free_stays : (r : Bool) → faulty (own j) ≡ false
         → r ≡ free (riders (circuits_in m s) gs) (circuit_of (record_at s j)) (assignment_of (record_at assigns j)).fibre (assignment_of (record_at assigns j)).wavelength
         → may_stay w m many s fibres assigns gs j ≡ r
     unfolding keepable
     free_stays r e f =
         let rs = riders (circuits_in m s) gs in
-        ap (λ (b : Bool). b && free_there) (sound_read j h ∙ ap not (sound_is (own j) e))
+        ap (λ (b : Bool). b && free_there) (sound_read j h ∙ ap not e)
         ∙ ap₂ (λ (x : Circuit) (y : AssignmentRecord). free rs x y.fibre y.wavelength) (circuit_in_lem m s j h) (record_read m assigns j h)
         ∙ sym f
 
   -- and then its fibre and wavelength fit the tables
-  pub sound_given : (j : ℕ) → w ≤ 80 → lowest_broken (own j) ≡ 0 → Given many assigns j × (1 ≤ (assignment_of (record_at assigns j)).wavelength)
+  pub sound_given : (j : ℕ) → w ≤ 80 → faulty (own j) ≡ false → Given many assigns j × (1 ≤ (assignment_of (record_at assigns j)).wavelength)
   sound_given j few e =
       let a = assignment_of (record_at assigns j) in
-      let none : NoneBroken (own j) = lowest_none (own j) (rising_numbered (own j) (omega arith, (omega arith, (omega arith, (omega arith, tt))))) e in
+      let none : NoneBroken (own j) = lowest_none (own j) (rising_numbered (own j) (omega arith, (omega arith, (omega arith, (omega arith, tt))))) (is_sound (own j) e) in
       let f = not-false (leb 1 a.fibre && leb a.fibre many) (none 1) in
       let v = not-false (leb 1 a.wavelength && leb a.wavelength w) (none 3) in
       let v₁ = leb-true a.wavelength w (and_r (leb 1 a.wavelength) _ v) in
@@ -240,14 +239,6 @@ turns_by_number n w m many s fibres assigns P reg long o = ordered_turns m (circ
 pub kept_given : (many m j : ℕ) (assigns flags flags' : List ℕ) → flags' ≡ set flags j 1 → Given many assigns j → GivenKept many m assigns flags → GivenKept many m assigns flags'
 kept_given many m j assigns flags flags' e here g i l f =
     by_eq i j (λ q. subst (Given many assigns) (sym q) here) (λ q. g i l (λ z. f (ap (λ (x : List ℕ). get_or x i 0) e ∙ get_or-set_other flags j i 1 0 q ∙ z)))
-
--- LENT PARTS. One from byte 0 to e comes back as it was left
-pub front_back : (e : ℕ) (xs ys : List ℕ) → length ys ≡ e → mid_of 0 (e - 0) (put_mid 0 (e - 0) xs ys) ≡ ys
-front_back e xs ys l = take_at ys (post_of 0 (e - 0) xs) (e - 0) (omega arith)
-
--- and there is room for it again
-pub front_room : (e : ℕ) (xs ys : List ℕ) → length ys ≡ e → e ≤ length (put_mid 0 (e - 0) xs ys)
-front_room e xs ys l = subst (λ z. e ≤ z) (sym (length-append ys (post_of 0 (e - 0) xs))) (omega arith)
 
 -- THE FIRST PASS IS DONE, in the order P
 pub sifted : (n w m many : ℕ) (s fibres assigns P flags report report' turns ends heads next : List ℕ) (k : ℕ)

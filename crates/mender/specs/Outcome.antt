@@ -1,15 +1,14 @@
 -- What `mend` answers, and what the four lent areas hold afterwards, for every input. What a reader must believe.
 -- `mend` in `src/lib.rt` promises it; `specs/Seen.antt` says what a caller sees of it, and `specs/Bench.antt` works out calls.
 -- Assumes nothing.
-use Rattle.std.specs.Prelude.{ℕ, ◌+◌, ◌*◌, ◌/◌, ◌≡◌, List, length, drop}
-use Rattle.std.proofs.Math.Option.{Option, none, some}
+use Rattle.std.specs.Prelude.{ℕ, ◌+◌, ◌*◌, ◌/◌, ◌≡◌, List, length, drop, Result, Ok, Err}
 use Rattle.records.specs.Records.{circuits_of}
 use Rattle.records.specs.declared.AssignmentRecord.{AssignmentRecord}
 use Rattle.records.specs.declared.Line.{Line}
 use Rattle.method.specs.Line.{Fibre}
-use Rattle.refusals.specs.Refusals.{Refusal, refusal_in, if_refused}
+use Rattle.refusals.specs.Refusals.{refusal_in, if_refused}
 use Rattle.refusals.specs.Table.{verdict}
-use Rattle.refusals.specs.declared.Verdict.{Verdict}
+use Rattle.refusals.specs.declared.Refusal.{Refusal}
 use Rattle.register.specs.Areas.{zeroed_to}
 use Rattle.register.specs.Lists.{assignment_records, behind, fibre_list}
 use Rattle.register.specs.Plans.{plan_in}
@@ -20,20 +19,18 @@ use Rattle.mending.specs.Mending as Lists
 use Rattle.mending.specs.Mending.{Mend, mend_counts, mend_lines}
 use Rattle.mender.specs.Report.{Lent, report_list}
 use Rattle.mender.specs.Table.{mend_table}
-use Rattle.mender.specs.declared.Answer.{Answer}
-use Rattle.mender.specs.declared.Answer.TheVariants.{Mended, Refused}
+use Rattle.mender.specs.declared.Mended.{Mended}
 
--- what an answer refuses: one definition takes each of its cases to a refusal, or none
-abbrev pub refusal_of : Answer → Option Refusal
-refusal_of (Mended counts lines) = none
-refusal_of (Refused number place end) = some (record { number = number; place = place; end = end })
+-- what `mend` answers: the three numbers of the plan and how many lines the report has, or a refusal
+abbrev pub Answer : Type 0
+Answer = Result Mended Refusal
 
--- the answer that refuses so
-abbrev pub refused_as : Refusal → Answer
-refused_as r = Refused r.number r.place r.end
+-- mended, with these numbers and so many lines
+abbrev pub mended_with : Counts → ℕ → Answer
+mended_with counts lines = Ok (record { counts = counts; lines = lines })
 
 -- the verdict of the tests: the first refusal that applies, or else how many circuits there are
-unfoldable pub judged : Line → List ℕ → ℕ → Lent → Verdict
+unfoldable pub judged : Line → List ℕ → ℕ → Lent → Result ℕ Refusal
 judged line s many lent = verdict (mend_table line s many lent) (length s / 8)
 
 -- the fibres that there are
@@ -49,8 +46,8 @@ abbrev pub mended_to : Line → List ℕ → ℕ → Lent → Mend
 mended_to line s many lent = Lists.mend line.links line.wavelengths (old_fibres many lent) (circuits_of s) (damaged s lent)
 
 -- mended, with the three numbers of the plan and how many lines the report has, or refused, as the table says
-abbrev pub answer_by : Verdict → Counts → ℕ → Answer
-answer_by v counts lines = if_refused (refusal_in v) refused_as (Mended counts lines)
+abbrev pub answer_by : Result ℕ Refusal → Counts → ℕ → Answer
+answer_by v counts lines = if_refused (refusal_in v) Err (mended_with counts lines)
 
 -- the answer and every byte of the four lent areas
 pub record Outcome (line : Line) (s : List ℕ) (many : ℕ) (before after : Lent) (answer : Answer) : Type 0 where

@@ -6,7 +6,8 @@ use Rattle.records.specs.Records.{circuits_of, record_at}
 use Rattle.records.specs.declared.Line.{Line}
 use Rattle.method.specs.Line.{total, Valid}
 use Rattle.method.specs.Fibres.{floor}
-use Rattle.refusals.specs.Refusals.{Refusal}
+use Rattle.refusals.specs.Refusals.{number_of, refusal_in}
+use Rattle.refusals.specs.declared.Refusal.{Refusal}
 use Rattle.refusals.specs.Table.{Row, circuit_rows}
 use Rattle.refusals.specs.Given.{Given, NoneApplies}
 use Rattle.refusals.specs.Ends.{TellsEnd}
@@ -20,9 +21,7 @@ use Rattle.mending.specs.Mended as Lists
 use Rattle.mending.specs.Mended.{reported}
 use Rattle.mender.specs.Report.{Lent, report_in}
 use Rattle.mender.specs.Table.{mend_table, row20}
-use Rattle.mender.specs.Outcome.{damaged, old_fibres, refusal_of}
-use Rattle.mender.specs.declared.Answer.{Answer}
-use Rattle.mender.specs.declared.Answer.TheVariants.{Mended}
+use Rattle.mender.specs.Outcome.{Answer, damaged, mended_with, old_fibres}
 
 -- the first `many` fibres of a list break neither rule 1 nor rule 2, and are at most 2,048
 pub record FibresFit (n many : ℕ) (fibres : List ℕ) : Type 0 where
@@ -63,13 +62,13 @@ module _ (line : Line) (s : List ℕ) (many : ℕ) (before after : Lent) where
   -- demand 1: a refusal is given exactly as tabled, tells the wrong end as R-6 has it, and then no byte is changed; what passes is mended;
   -- 20 applies exactly if the fibres are not fit, and tells which
   pub record Seen1 (answer : Answer) : Type 0 where
-    pub as_tabled : (r : Refusal) → refusal_of answer ≡ some r → Given tests r
-    pub whenever_tabled : (r : Refusal) → Given tests r → refusal_of answer ≡ some r
-    pub otherwise_mended : NoneApplies tests → (counts : Counts) × (lines : ℕ) × (answer ≡ Mended counts lines)
-    pub passes_mended : Passes → (counts : Counts) × (lines : ℕ) × (answer ≡ Mended counts lines)
-    pub end_told : (r : Refusal) → refusal_of answer ≡ some r → TellsEnd line.links (length s / 8) s r
-    pub fibre_told : (r : Refusal) → refusal_of answer ≡ some r → r.number ≡ 20 → FibreTold line.links many before.fibres r.place
-    pub unchanged : (r : Refusal) → refusal_of answer ≡ some r → after ≡ before
+    pub as_tabled : (r : Refusal) → refusal_in answer ≡ some r → Given tests r
+    pub whenever_tabled : (r : Refusal) → Given tests r → refusal_in answer ≡ some r
+    pub otherwise_mended : NoneApplies tests → (counts : Counts) × (lines : ℕ) × (answer ≡ mended_with counts lines)
+    pub passes_mended : Passes → (counts : Counts) × (lines : ℕ) × (answer ≡ mended_with counts lines)
+    pub end_told : (r : Refusal) → refusal_in answer ≡ some r → TellsEnd line.links (length s / 8) s r
+    pub fibre_told : (r : Refusal) → refusal_in answer ≡ some r → number_of r.reason ≡ 20 → FibreTold line.links many before.fibres r.place
+    pub unchanged : (r : Refusal) → refusal_in answer ≡ some r → after ≡ before
     pub fit_passes : Fit → row20 line.links many before.fibres ≡ none
     pub passes_fit : row20 line.links many before.fibres ≡ none → Fit
 
@@ -103,4 +102,4 @@ module _ (line : Line) (s : List ℕ) (many : ℕ) (before after : Lent) where
   -- one call of `mend`
   pub record Seen (answer : Answer) : Type 0 where
     pub demand_1 : Seen1 answer
-    pub demand_2 : (counts : Counts) (lines : ℕ) → answer ≡ Mended counts lines → Seen2 counts lines
+    pub demand_2 : (counts : Counts) (lines : ℕ) → answer ≡ mended_with counts lines → Seen2 counts lines

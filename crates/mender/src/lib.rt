@@ -1,4 +1,5 @@
 // A damaged register mended: the tests, who is kept, places for the rest, and the report.
+// The lent areas go one by one: a struct that holds them by reference makes clauses say `.entry.` of each field.
 #![tactic(auto)]
 
 mod admit;
@@ -11,14 +12,14 @@ ghost use Rattle.mender.specs.Report.{lent_areas};
 ghost use Rattle.mender.specs.Outcome.{Outcome};
 
 use records::Line;
-use refusals::Verdict;
+use refusals::Refusal;
 use register::Counts;
 
-// Mended, with the three numbers and how many lines the report has, or refused, with number, place and which end is wrong.
-#[derive(Clone, Copy)]
-pub enum Answer {
-    Mended { counts: Counts, lines: usize },
-    Refused { number: u32, place: u32, end: u32 },
+// What a mending tells: the three numbers of the plan, and how many lines the report has.
+#[derive(Clone, Copy, Debug, PartialEq, Eq)]
+pub struct Mended {
+    pub counts: Counts,
+    pub lines: usize,
 }
 
 // Mends the register of the circuits of a file on a line, whose `many` fibres begin the fibre list.
@@ -30,12 +31,9 @@ pub fn mend(
     assigns: &mut [u8],
     report: &mut [u8],
     work: &mut [u8],
-) -> Answer
+) -> Result<Mended, Refusal>
     ensures { Outcome line circuits.now many (lent_areas fibres.old assigns.old report.old work.old) (lent_areas fibres.new assigns.new report.new work.new) result }
 {
-    let t = admit::of_mending(line, circuits, many, fibres, assigns, report, work);
-    match t {
-        Verdict::Refused { number, place, end } => Answer::Refused { number, place, end },
-        Verdict::Checked(_) => remake::remake(line, circuits, many, fibres, assigns, report, work),
-    }
+    admit::of_mending(line, circuits, many, fibres, assigns, report, work)?;
+    Ok(remake::remake(line, circuits, many, fibres, assigns, report, work))
 }

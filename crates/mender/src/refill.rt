@@ -1,9 +1,12 @@
 // Both passes: who is not kept gets, by rising number, the lowest place on the old fibres, or 0 and 0, and a line of the report that begins.
+// The lent areas go one by one: a struct that holds them by reference makes clauses say `.entry.` of each field.
 ghost use Rattle.std.specs.Prelude.{ℕ, ◌*◌, ◌≤◌, length};
 ghost use Rattle.mender.specs.inner.Steps.{Refilled, Register};
 
 use crate::sift;
+use crate::sift::Damaged;
 use placing::Sizes;
+use records::chains::Chains;
 
 // What is told: how many are not kept.
 pub fn refill(
@@ -16,33 +19,31 @@ pub fn refill(
     report: &mut [u8],
     ends: &mut [u8],
 ) -> usize
-    requires by_index { (n : ℕ) × Register n w m many circuits.now fibres.now assigns.old }
-    requires m_in_bounds { (12 * m ≤ length report.old) × (4 * m ≤ length ends.old) }
+    requires register { (n : ℕ) × Register n w m many circuits.now fibres.now assigns.old }
+    requires room { (12 * m ≤ length report.old) × (4 * m ≤ length ends.old) }
     ensures { Refilled w m many circuits.now fibres.now assigns.old assigns.new report.old report.new result }
 {
     let mut turns: [u8; 4096] = [0; 4096];
-    let mut heads: [u16; 2048] = [0; 2048];
-    let mut next: [u16; 2048] = [0; 2048];
-    let k = sift::sift(
-        circuits, m, fibres, many, w, assigns, report, &mut turns, ends, &mut heads, &mut next,
-    );
-    let e = 2 * k;
+    let mut chains = Chains {
+        heads: [0; 2048],
+        next: [0; 2048],
+    };
+    let damaged = Damaged {
+        circuits,
+        m,
+        fibres,
+        many,
+        wavelengths: w,
+        assigns,
+    };
+    let k = sift::sift(damaged, report, &mut turns, ends, &mut chains);
     let sizes = Sizes {
         circuits: m,
         before: 0,
         fibres: many,
         wavelengths: w,
     };
-    placing::place_all(
-        circuits,
-        sizes,
-        &turns[0..e],
-        k,
-        fibres,
-        assigns,
-        ends,
-        &mut heads,
-        &mut next,
-    );
+    let lost = &turns[..2 * k];
+    placing::place_all(circuits, sizes, lost, k, fibres, assigns, ends, &mut chains);
     k
 }

@@ -1,10 +1,11 @@
 // A register that passed the tests, mended: both passes, new fibres for those that fit nowhere, the report filled in, and the three numbers.
 // Each step that needs a table is a function of its own, so that no other table is on the stack while the new fibres are planned.
+// The lent areas go one by one: a struct that holds them by reference makes clauses say `.entry.` of each field.
 ghost use Rattle.std.specs.Prelude.{◌/◌, length};
 ghost use Rattle.mender.specs.Report.{lent_areas};
 ghost use Rattle.mender.specs.inner.Steps.{MendAsked, Remade};
 
-use crate::{Answer, lines, refill};
+use crate::{Mended, lines, refill};
 use records::Line;
 use register::{Counts, Job};
 
@@ -17,35 +18,20 @@ pub fn remake(
     assigns: &mut [u8],
     report: &mut [u8],
     work: &mut [u8],
-) -> Answer
+) -> Mended
     requires { MendAsked line.links line.wavelengths (length circuits.now / 8) many circuits.now (lent_areas fibres.old assigns.old report.old work.old) }
     ensures { Remade line.links line.wavelengths (length circuits.now / 8) many circuits.now (lent_areas fibres.old assigns.old report.old work.old) (lent_areas fibres.new assigns.new report.new work.new) result }
 {
     let m = circuits.len() / 8;
     let w = line.wavelengths;
-    let a = 4 * line.links;
-    let e = a + 4 * m;
     let span = checker::measures::length_of(fibres, many);
     let floor = checker::measures::floor_of(circuits, line.links, w, m);
-    let lines = refill::refill(
-        circuits,
-        m,
-        fibres,
-        many,
-        w,
-        assigns,
-        report,
-        &mut work[a..e],
-    );
-    let job = Job {
-        links: line.links,
-        wavelengths: w,
-        circuits: m,
-        from: many,
-    };
+    let ends = &mut work[4 * line.links..4 * line.links + 4 * m];
+    let lines = refill::refill(circuits, m, fibres, many, w, assigns, report, ends);
+    let job = Job::on(line, m, many);
     let added = parts::plan_left(job, circuits, 0, fibres, assigns, work);
     lines::fill_lines(assigns, lines, report);
-    Answer::Mended {
+    Mended {
         counts: Counts {
             fibres: many + added.fibres,
             total: span + added.total,

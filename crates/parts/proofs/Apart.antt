@@ -1,11 +1,10 @@
 -- A part of a file as a file of its own: it may be settled, and what that leaves is what the part is given. Assumes nothing.
-use Prim.Native.Nat.{ℕ, ◌+◌, ◌*◌, ◌-◌, ◌/◌, ◌<◌, ◌≤◌}
-use lib.ListN.{get_or, length, length-map}
+use Prim.Native.Nat.{ℕ, ◌+◌, ◌*◌, ◌/◌, ◌<◌, ◌≤◌}
+use lib.ListN.{get_or, length, length-map, take}
 use lib.Seq.{take_at}
 use mathlib.Core.List.{List, ◌++◌}
 use mathlib.Core.Path.{◌≡◌, ap, ◌∙◌, subst, sym}
 use native.Mathlib.Omega.{arith}
-use borrow.Rule.Slice.PartMut.{mid_of}
 use Rattle.records.specs.Bytes.{cells_of}
 use Rattle.records.specs.Records.{assignment_bytes, assignment_of, circuits_in, circuits_of, file_of, record_at}
 use Rattle.records.specs.declared.Circuit.{Circuit}
@@ -32,8 +31,8 @@ part_read part k s n e =
     ap (circuits_in k) e ∙ ap (λ x. circuits_in x (file_of part)) z ∙ file_read_written part
 
 -- the first 8 k bytes, where the part was copied
-pub part_lent : (part : List Circuit) (k : ℕ) (file rest : List ℕ) → length part ≡ k → file ≡ file_of part ++ rest → mid_of 0 (8 * k - 0) file ≡ file_of part
-part_lent part k file rest n e = ap (mid_of 0 (8 * k - 0)) e ∙ take_at (file_of part) rest (8 * k - 0) (let l = length_file_of part in omega arith)
+pub part_lent : (part : List Circuit) (k : ℕ) (file rest : List ℕ) → length part ≡ k → file ≡ file_of part ++ rest → take (8 * k) file ≡ file_of part
+part_lent part k file rest n e = ap (take (8 * k)) e ∙ take_at (file_of part) rest (8 * k) (let l = length_file_of part in omega arith)
 
 -- numbers that differ stand at places that differ
 once_distinct : (cs : List Circuit) (js : List ℕ) (k : ℕ) → length js ≡ k → Distinct (chosen cs js) → Once k js

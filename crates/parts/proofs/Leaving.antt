@@ -40,8 +40,8 @@ use Rattle.parts.specs.Left.{LeftAsked, LeftSettled, said_behind}
 use Rattle.parts.specs.Part.{PartAsked, PartSettled, PlacesOf, Scattered, chosen}
 
 -- the places that are lent on: the first k cells of the table
-pub places_lent : (js table : List ℕ) (k : ℕ) → take k (cells_of table) ≡ js → cells_of (mid_of 0 (2 * k - 0) table) ≡ js
-places_lent js table k e = cells_mid 0 (2 * k - 0) 0 k table refl (sub-zero (2 * k)) ∙ e
+pub places_lent : (js table : List ℕ) (k : ℕ) → take k (cells_of table) ≡ js → cells_of (take (2 * k) table) ≡ js
+places_lent js table k e = ap (λ x. cells_of (take x table)) (sym (sub-zero (2 * k))) ∙ cells_mid 0 (2 * k - 0) 0 k table refl (sub-zero (2 * k)) ∙ e
 
 -- a list from byte a on, lent on
 pub tail_lent : (a : ℕ) (xs : List ℕ) → mid_of a (length xs - a) xs ≡ drop a xs

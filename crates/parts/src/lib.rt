@@ -1,10 +1,12 @@
 // Some circuits of a file, planned alone: their records are copied, settled, and each assignment is put into its circuit's own record.
 // Those that have no place yet are noted by their places, and planned so, their fibres behind the old ones.
+// Records stand in lent bytes, so loops go over their places.
+// The lent areas go one by one: a struct that holds them by reference makes clauses say `.entry.` of each field.
 #![tactic(auto)]
 
-ghost use Rattle.std.specs.Prelude.{◌≡◌, cond, ◌++◌, ℕ, ◌+◌, ◌*◌, ◌/◌, ◌<◌, ◌≤◌, eqb, drop, get_or, length, take};
+ghost use Rattle.std.specs.Prelude.{◌≡◌, ◌++◌, ℕ, ◌+◌, ◌*◌, ◌/◌, ◌<◌, ◌≤◌, drop, get_or, length, take};
 ghost use Rattle.basics.specs.Tools.{count};
-ghost use Rattle.records.specs.Bytes.{cells_of, set_cell};
+ghost use Rattle.records.specs.Bytes.{cells_of};
 ghost use Rattle.records.specs.Records.{assignment_bytes, assignment_of, circuits_in, circuits_of, file_of, record_at};
 ghost use Rattle.register.specs.Areas.{areas};
 ghost use Rattle.places.specs.Parts.{those};
@@ -12,6 +14,7 @@ ghost use Rattle.additions.specs.Adding.{unplaced};
 ghost use Rattle.parts.specs.Left.{LeftAsked, LeftSettled, said_behind};
 ghost use Rattle.parts.specs.Part.{ApartAsked, Once, PartAsked, PartSettled, PlacesOf, Scattered, chosen};
 
+use records::{AssignmentRecord, Circuit};
 use register::{Counts, Job};
 
 // The circuits of a file at k places, copied to the start of another file.
@@ -20,9 +23,8 @@ fn copy_part(circuits: &[u8], places: &[u8], k: usize, file: &mut [u8])
     ensures { file.new ≡ file_of (chosen (circuits_of circuits.now) (cells_of places.now)) ++ drop (8 * k) file.old }
 {
     for t in 0..k {
-        let i = records::numbers::index(records::cells::get(places, t));
-        let c = records::circuit_at(circuits, i);
-        records::put_circuit(file, t, c);
+        let i = usize::from(records::cells::get(places, t));
+        records::put_record(file, t, records::record_at::<Circuit>(circuits, i));
     }
 }
 
@@ -32,9 +34,9 @@ fn put_part(list: &[u8], places: &[u8], k: usize, base: usize, assigns: &mut [u8
     ensures { Scattered base k (cells_of places.now) (λ t. assignment_bytes (assignment_of (record_at list.now t))) assigns.old assigns.new }
 {
     for t in 0..k {
-        let i = records::numbers::index(records::cells::get(places, t));
-        let a = records::assignment_at(list, t);
-        records::put_assignment(assigns, base + i, a);
+        let i = usize::from(records::cells::get(places, t));
+        let a = records::record_at::<AssignmentRecord>(list, t);
+        records::put_record(assigns, base + i, a);
     }
 }
 
@@ -71,22 +73,9 @@ pub fn plan_part(
     ensures { PartSettled job.links job.wavelengths job.from base (chosen (circuits_of circuits.now) (cells_of places.now)) (cells_of places.now) (areas fibres.old assigns.old work.old) (areas fibres.new assigns.new work.new) result }
 {
     let k = job.circuits;
-    let e = 8 * k;
     let mut file: [u8; 16384] = [0; 16384];
     copy_part(circuits, places, k, &mut file);
-    settle_part(job, &file[0..e], places, base, fibres, assigns, work)
-}
-
-// Place j is noted in cell k if its circuit has fibre 0, which is none. What is told: the next free cell.
-fn note_one(fibre: u16, j: usize, k: usize, places: &mut [u8]) -> usize
-    requires { (j < 2048) × (k < 2048) × (2 * k + 2 ≤ length places.old) }
-    ensures { (result ≡ cond (eqb fibre 0) (k + 1) k) × (places.new ≡ cond (eqb fibre 0) (set_cell places.old k j) places.old) }
-{
-    if fibre != 0 {
-        return k;
-    }
-    records::cells::put(places, k, j as u16);
-    k + 1
+    settle_part(job, &file[..8 * k], places, base, fibres, assigns, work)
 }
 
 // The places of those of m circuits that have no place, by their records behind `base` others, in the order of the file. What is told: how many.
@@ -96,8 +85,12 @@ fn note_left(assigns: &[u8], base: usize, m: usize, places: &mut [u8]) -> usize
 {
     let mut k = 0;
     for j in 0..m {
-        let a = records::assignment_at(assigns, base + j);
-        k = note_one(a.fibre, j, k, places);
+        let a = records::record_at::<AssignmentRecord>(assigns, base + j);
+        // Fibre 0 is none.
+        if a.fibre == 0 {
+            records::cells::put(places, k, j as u16);
+            k += 1;
+        }
     }
     k
 }
@@ -118,22 +111,18 @@ pub fn plan_left(
     let mut places: [u8; 4096] = [0; 4096];
     let left = note_left(assigns, base, job.circuits, &mut places);
     let part = Job {
-        links: job.links,
-        wavelengths: job.wavelengths,
         circuits: left,
-        from: job.from,
+        ..job
     };
-    let e = 2 * left;
-    let a = 8 * job.from;
     let counts = plan_part(
         part,
         circuits,
-        &places[0..e],
+        &places[..2 * left],
         base,
-        &mut fibres[a..],
+        &mut fibres[8 * job.from..],
         assigns,
         work,
     );
-    records::cells::zero(work, used);
+    work[..used].fill(0);
     counts
 }

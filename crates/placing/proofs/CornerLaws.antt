@@ -6,8 +6,8 @@ use lib.ListN.{get_or, length, set}
 use lib.Seq.{get_or-set_other, get_or-set_same}
 use mathlib.Core.Bool.{false, true}
 use mathlib.Core.List.{List}
-use mathlib.Core.Logic.{inl, inr, ⊎_elim}
-use mathlib.Core.Path.{◌∙◌, ◌≡◌, ap, refl, subst, sym}
+use mathlib.Core.Logic.{⊎_elim}
+use mathlib.Core.Path.{◌∙◌, ◌≡◌, ap, subst, sym}
 use native.Mathlib.Omega.{arith}
 use Rattle.basics.specs.Tools.{any, seek}
 use Rattle.basics.proofs.Bools.{and_l, and_of, and_r, by_eq, by_le, clash, on}
@@ -18,10 +18,9 @@ use Rattle.method.specs.Line.{overlap}
 use Rattle.places.specs.Places.{Rider, clashes, free, free_wavelength, rider}
 use Rattle.places.proofs.PlaceLaws.{clashes_fibre, clashes_of, clashes_overlap, clashes_wavelength, free_apart, free_of}
 use Rattle.placing.specs.Riding.{Among, Chain, Chained}
+use Rattle.placing.specs.inner.Spots.{Bounded, Cornered, Cornering, CornersHold, ShutsOut, within}
 use Rattle.placing.specs.inner.Rides.{hops}
-use Rattle.placing.specs.inner.Spots.{Bounded, Cornered, Cornering, Corners, ShutsOut, within}
-use Rattle.placing.proofs.ChainLaws.{ended, here, hops_are}
-use Rattle.placing.proofs.MarkLaws.{chain_short}
+use Rattle.placing.proofs.ChainLaws.{ended, walk_all, walk_at, walk_less, walk_on, walk_passed, walk_start}
 
 -- where a wavelength is not free some rider clashes
 taken_by : (rs : List Rider) (c : Circuit) (q v : ℕ) → free rs c q v ≡ false → (d : ℕ) × (d < length rs) × (clashes (rider rs d) c q v ≡ true)
@@ -58,7 +57,7 @@ corner_shuts lo hi rs c q p t h k d one a b =
 
 -- a corner that is noted
 pub corner_noted : (many lo hi : ℕ) (rs : List Rider) (untils froms : List ℕ) (q p t : ℕ) → 1 ≤ q → q ≤ many → many ≤ length untils → many ≤ length froms
-    → ShutsOut lo hi rs q p t → Corners many lo hi rs untils froms → Corners many lo hi rs (set untils (q - 1) p) (set froms (q - 1) t)
+    → ShutsOut lo hi rs q p t → CornersHold many lo hi rs untils froms → CornersHold many lo hi rs (set untils (q - 1) p) (set froms (q - 1) t)
 corner_noted many lo hi rs untils froms q p t a b m n s k y a' b' =
     by_eq y q
     (λ e c one f g.
@@ -72,7 +71,7 @@ corner_noted many lo hi rs untils froms q p t a b m n s k y a' b' =
     k y a' b' c one (omega arith) (omega arith))
 
 -- who lies about a corner is shut out
-pub corner_hit : (many lo hi : ℕ) (rs : List Rider) (untils froms : List ℕ) (q : ℕ) (c : Circuit) → 1 ≤ q → q ≤ many → 1 ≤ c.first → within untils froms (q - 1) c ≡ true → Corners many lo hi rs untils froms → hi < free_wavelength lo hi rs c q
+pub corner_hit : (many lo hi : ℕ) (rs : List Rider) (untils froms : List ℕ) (q : ℕ) (c : Circuit) → 1 ≤ q → q ≤ many → 1 ≤ c.first → within untils froms (q - 1) c ≡ true → CornersHold many lo hi rs untils froms → hi < free_wavelength lo hi rs c q
 unfolding within
 corner_hit many lo hi rs untils froms q c a b one w k =
     k q a b c one (leb-true c.first (get_or untils (q - 1) 0) (and_l _ _ w)) (leb-true (get_or froms (q - 1) 0) c.last (and_r (leb c.first (get_or untils (q - 1) 0)) _ w))
@@ -80,55 +79,41 @@ corner_hit many lo hi rs untils froms q c a b one w k =
 -- THE WALK
 module _ (rs : List Rider) (ends assigns next : List ℕ) (c : Circuit) (head q : ℕ) (h : Chained rs ends assigns next head q) where
   pub corner_start : (p t : ℕ) → Cornering rs next c q head p t
-  corner_start p t =
-      record {
-        left = h.places;
-        linked = h.linked;
-        short = chain_short rs ends assigns next head q h;
-        mine = h.mine;
-        passed = λ d l e o out. absurd (out (h.all d l e));
-      }
+  corner_start p t = record { walk = walk_start rs ends assigns next head q h; passed = λ d l e o out. absurd (out (walk_all rs ends assigns next head q h d l e)) }
 
-  module _ (z p t : ℕ) (m : Cornering rs next c q z p t) where
-    pub corner_at : 0 < z → (z - 1 < length rs) × ((rider rs (z - 1)).fibre ≡ q)
-    corner_at y = let w = here next m.left z m.linked y in m.mine (z - 1) (subst (Among (z - 1)) (sym w.is) (inl refl))
+  module _ (z j p t : ℕ) (here : z ≡ suc j) (came : Cornering rs next c q z p t) where
+    m : Cornering rs next c q (suc j) p t
+    m = subst (λ x. Cornering rs next c q x p t) here came
 
-    pub corner_less : (y : ℕ) → 0 < z → y ≡ get_or next (z - 1) 0 → hops next 2048 y < hops next 2048 z
-    corner_less y u e =
-        let w = here next m.left z m.linked u in
-        let n : length m.left ≡ suc (length w.rest) = ap length w.is in
-        let a = hops_are next m.left z 2048 m.linked m.short in
-        let b = hops_are next w.rest y 2048 (subst (λ i. Chain next i w.rest) (sym e) w.linked) (omega (arith, m.short)) in
-        omega arith
+    pub corner_at : (j < 2048) × (4 * j + 4 ≤ length ends)
+    corner_at = let r = walk_at rs next q j m.walk in let l = r.0 in (omega (arith, h.few), omega (arith, h.room_ends))
 
-    pub corner_turn : (y p' t' : ℕ) → 0 < z → y ≡ get_or next (z - 1) 0 → p' ≤ p → t ≤ t' → Bounded (cell ends (2 * (z - 1))) (cell ends (2 * (z - 1) + 1)) c p' t' → Cornering rs next c q y p' t'
+    pub corner_less : (y : ℕ) → y ≡ get_or next j 0 → hops next 2048 y < hops next 2048 z
+    corner_less y on = let w = walk_less rs next q j m.walk in let a = ap (hops next 2048) on in let b = ap (hops next 2048) here in omega arith
+
+    pub corner_turn : (p' t' : ℕ) → p' ≤ p → t ≤ t' → Bounded (cell ends (2 * j)) (cell ends (2 * j + 1)) c p' t' → Cornering rs next c q (get_or next j 0) p' t'
     unfolding overlap
-    corner_turn y p' t' u e a b o =
-        let w = here next m.left z m.linked u in
-        let r = corner_at u in
-        let k : length m.left ≡ suc (length w.rest) = ap length w.is in
-        let f = h.first_is (z - 1) r.0 r.1 in
-        let g = h.last_is (z - 1) r.0 r.1 in
+    corner_turn p' t' a b o =
+        let r = walk_at rs next q j m.walk in
+        let f = h.first_is j r.0 r.1 in
+        let g = h.last_is j r.0 r.1 in
         record {
-          left = w.rest;
-          linked = subst (λ i. Chain next i w.rest) (sym e) w.linked;
-          short = omega (arith, m.short);
-          mine = λ d x. m.mine d (subst (Among d) (sym w.is) (inr x));
+          walk = walk_on rs next q j m.walk;
           passed = λ d l x ov out.
-              by_eq d (z - 1)
+              by_eq d j
               (λ i.
-              let i₁ : (rider rs d).who.first ≡ cell ends (2 * (z - 1)) = ap (λ j. (rider rs j).who.first) i ∙ sym f in
-              let i₂ : (rider rs d).who.last ≡ cell ends (2 * (z - 1) + 1) = ap (λ j. (rider rs j).who.last) i ∙ sym g in
+              let i₁ : (rider rs d).who.first ≡ cell ends (2 * j) = ap (λ k. (rider rs k).who.first) i ∙ sym f in
+              let i₂ : (rider rs d).who.last ≡ cell ends (2 * j + 1) = ap (λ k. (rider rs k).who.last) i ∙ sym g in
               let s = o (and_of _ _ (le-leb _ c.last (let z = leb-true (rider rs d).who.first c.last (and_l _ _ ov) in omega arith)) (le-leb c.first _ (let z = leb-true c.first (rider rs d).who.last (and_r (leb (rider rs d).who.first c.last) _ ov) in omega arith))) in
               let s₀ = s.0 in
               let s₁ = s.1 in
               (omega arith, omega arith))
               (λ i.
-              let s = m.passed d l x ov (λ j. ⊎_elim {C = ⊥} i out (subst (Among d) w.is j)) in
+              let s = m.passed d l x ov (λ k. ⊎_elim {C = ⊥} i out (walk_passed rs next q j m.walk d k)) in
               let s₀ = s.0 in
               let s₁ = s.1 in
               (omega arith, omega arith));
         }
 
-    pub corner_end : z ≡ 0 → Cornered rs c q p t
-    corner_end e d l x o = m.passed d l x o (λ a. subst (Among d) (ended next m.left z m.linked e) a)
+  pub corner_end : (z p t : ℕ) → z ≡ 0 → Cornering rs next c q z p t → Cornered rs c q p t
+  corner_end z p t e m d l x o = m.passed d l x o (λ a. subst (Among d) (ended next m.walk.left (subst (λ x. Chain next x m.walk.left) e m.walk.linked)) a)

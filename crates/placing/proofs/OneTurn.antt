@@ -20,21 +20,20 @@ use Rattle.places.proofs.PlaceLaws.{clashes_fibre, free_apart, free_of, place_lo
 use Rattle.places.proofs.RiderLaws.{append_set, length_riders, rider_is, rider_new, rider_other, riders_set}
 use Rattle.additions.specs.Adding.{finds}
 use Rattle.placing.specs.Riding.{Riding}
-use Rattle.placing.specs.Found.{Spotted}
 use Rattle.placing.specs.Turns.{given_bytes}
 use Rattle.placing.specs.inner.Rides.{noted}
-use Rattle.placing.specs.inner.Spots.{Corners}
+use Rattle.placing.specs.inner.Spots.{CornersHold}
 use Rattle.placing.specs.inner.Standing.{PlacedOne, Seated, Standing}
 use Rattle.placing.proofs.CornerLaws.{none_either}
 use Rattle.records.proofs.RecordLaws.{length_put_record, record_other, record_same}
 use Rattle.placing.proofs.RideLaws.{none_rides, rides}
 
 -- zeros shut out nobody
-pub corners_none : (many lo hi : ℕ) (rs : List Rider) (untils froms : List ℕ) (n : ℕ) → untils ≡ replicate n 0 → Corners many lo hi rs untils froms
+pub corners_none : (many lo hi : ℕ) (rs : List Rider) (untils froms : List ℕ) (n : ℕ) → untils ≡ replicate n 0 → CornersHold many lo hi rs untils froms
 corners_none many lo hi rs untils froms n e q a b c one f g = absurd (let z = ap (λ l. get_or l (q - 1) 0) e ∙ zeros_at n (q - 1) in omega arith)
 
 -- RIDERS ONLY COME: whom a fibre shuts out it shuts out later too
-pub corners_stay : (many lo hi : ℕ) (rs : List Rider) (j : ℕ) (r : Rider) (untils froms : List ℕ) → (rider rs j).fibre ≡ 0 → Corners many lo hi rs untils froms → Corners many lo hi (set rs j r) untils froms
+pub corners_stay : (many lo hi : ℕ) (rs : List Rider) (j : ℕ) (r : Rider) (untils froms : List ℕ) → (rider rs j).fibre ≡ 0 → CornersHold many lo hi rs untils froms → CornersHold many lo hi (set rs j r) untils froms
 corners_stay many lo hi rs j r untils froms z k q a b c one f g =
     none_either lo hi (set rs j r) rs c c q
     (λ v u. free_of rs c q v (λ d l o.
@@ -81,7 +80,7 @@ module _ (many w : ℕ) (old : List Rider) (ds : List Circuit) (gs : List Assign
             one_each = length-set gs i g ∙ h.one_each;
             riding = subst (λ rs. Riding many rs ends assigns' heads next) (sym (riders_given i g h.one_each))
                 (none_rides many (old ++ riders ds gs) (length old + i) (riding (circuit ds i) g) ends assigns assigns' heads next (omega (arith, riders_many)) none_yet e long others h.riding);
-            corners = subst (λ rs. Corners many 1 w rs untils froms) (sym (riders_given i g h.one_each)) (corners_stay many 1 w (old ++ riders ds gs) (length old + i) (riding (circuit ds i) g) untils froms none_yet h.corners);
+            corners = subst (λ rs. CornersHold many 1 w rs untils froms) (sym (riders_given i g h.one_each)) (corners_stay many 1 w (old ++ riders ds gs) (length old + i) (riding (circuit ds i) g) untils froms none_yet h.corners);
           }
 
       -- it rides
@@ -98,11 +97,15 @@ module _ (many w : ℕ) (old : List Rider) (ds : List Circuit) (gs : List Assign
                 ∙ ap (λ s. (assignment_of s).wavelength) (record_same assigns (length old + i) (given_bytes ds i g) (omega arith) refl)
                 ∙ ap (λ (x : AssignmentRecord). x.wavelength) (assignment_read_written (record { circuit = number ds i; fibre = g.fibre; wavelength = g.wavelength })))
                 (e₁ ∙ ap (λ x. noted x (length old + i) ends) ec) e₂ e₃ h.riding);
-            corners = subst (λ rs. Corners many 1 w rs untils froms) (sym (riders_given i g h.one_each)) (corners_stay many 1 w (old ++ riders ds gs) (length old + i) (riding (circuit ds i) g) untils froms none_yet h.corners);
+            corners = subst (λ rs. CornersHold many 1 w rs untils froms) (sym (riders_given i g h.one_each)) (corners_stay many 1 w (old ++ riders ds gs) (length old + i) (riding (circuit ds i) g) untils froms none_yet h.corners);
           }
 
+-- fibre q and wavelength v are the place that `place` names; both are 0 if there is none
+abbrev pub Told : List Fibre → ℕ → ℕ → List Rider → Circuit → ℕ → ℕ → Type 0
+Told fs lo hi rs c q v = (q ≡ (place fs lo hi rs c).fibre) × (v ≡ (place fs lo hi rs c).wavelength)
+
 -- what is known of a place that was found
-spot_fits : (fs : List Fibre) (lo hi : ℕ) (rs : List Rider) (c : Circuit) (q v : ℕ) → Spotted fs lo hi rs c q v → 1 ≤ q → (q ≤ length fs) × (v ≤ hi)
+spot_fits : (fs : List Fibre) (lo hi : ℕ) (rs : List Rider) (c : Circuit) (q v : ℕ) → Told fs lo hi rs c q v → 1 ≤ q → (q ≤ length fs) × (v ≤ hi)
 spot_fits fs lo hi rs c q v s one =
     let s₀ = s.0 in
     let s₁ = s.1 in
@@ -110,7 +113,7 @@ spot_fits fs lo hi rs c q v s one =
     (omega (arith, f.in_list), omega (arith, f.high))
 
 -- found or not, its fibre is not past the list
-pub spot_in_list : (fs : List Fibre) (lo hi : ℕ) (rs : List Rider) (c : Circuit) (q v : ℕ) → Spotted fs lo hi rs c q v → q ≤ length fs
+pub spot_in_list : (fs : List Fibre) (lo hi : ℕ) (rs : List Rider) (c : Circuit) (q v : ℕ) → Told fs lo hi rs c q v → q ≤ length fs
 spot_in_list fs lo hi rs c q v s = by_le 1 q (λ one. (spot_fits fs lo hi rs c q v s one).0) (λ none. omega arith)
 
 -- A TURN AS THE CODE HAS IT: circuit i of the file `new`, behind mo old ones, found fibre q and wavelength v, and its record was written
@@ -118,7 +121,7 @@ module _ (many w mo m i : ℕ) (new : List ℕ) (fs : List Fibre) (old : List Ri
     (l : i < m) (ec : c ≡ circuit_of (record_at new i)) (eo : length old ≡ mo) (free-yet : (given_to gs i).fibre ≡ 0) (room : 8 * (mo + m) ≤ length assigns)
     (said : assigns' ≡ put_record assigns (mo + i) (assignment_bytes (record { circuit = c.number; fibre = q; wavelength = v })))
     (h : Standing many w old (circuits_in m new) gs ends assigns heads next untils froms)
-    (spot : Spotted fs 1 w (old ++ riders (circuits_in m new) gs) c q v × Corners many 1 w (old ++ riders (circuits_in m new) gs) untils' froms')
+    (spot : Told fs 1 w (old ++ riders (circuits_in m new) gs) c q v × CornersHold many 1 w (old ++ riders (circuits_in m new) gs) untils' froms')
   where
     it_is : c ≡ circuit (circuits_in m new) i
     it_is = ec ∙ sym (circuit_in_lem m new i l)

@@ -1,308 +1,210 @@
 // The lowest place for a circuit: whom a fibre shuts out, the fibres that are open to it, 32 at a time, and what they offer.
-ghost use Rattle.std.specs.Prelude.{◌≡◌, cond, List, ℕ, max, min, ◌+◌, ◌-◌, ◌*◌, ◌≤◌, ◌<◌, length};
-ghost use Rattle.basics.specs.Tools.{any, seek};
+// Records stand in lent bytes, so loops go over their places.
+// The lent areas go one by one: a struct that holds them by reference makes clauses say `.entry.` of each field.
+// Tables of this size are never copied or compared.
+ghost use Rattle.std.specs.Prelude.{◌≡◌, List, ℕ, ◌+◌, ◌-◌, ◌*◌, ◌≤◌, ◌<◌, get_or, length};
+ghost use Rattle.basics.specs.Tools.{seek};
 ghost use Rattle.records.specs.Bytes.{cell};
-ghost use Rattle.scans.specs.inner.Chunks.{CameTo};
 ghost use Rattle.places.specs.Places.{Rider, free_wavelength};
 ghost use Rattle.placing.specs.Riding.{Chained, Riding, spans_of};
 ghost use Rattle.placing.specs.Found.{Spotted};
-ghost use Rattle.placing.specs.inner.Spots.{Bounded, Columns, Cornered, Corners, Offers, Tables, open_to, spans_in};
+ghost use Rattle.placing.specs.inner.Marking.{up_to};
+ghost use Rattle.placing.specs.inner.Spots.{Bounded, Columns, Cornered, CornersHold, Offers, before, open_to, spans_in};
 
-use crate::{Spot, riders};
+use crate::{Spot, Waves, riders};
+use records::chains::Chains;
+use records::{Circuit, FibreRecord};
 
 // A corner of a fibre: it shuts out who begins at link `until` or before and ends at link `from` or later.
-#[derive(Clone, Copy)]
+#[derive(Clone, Copy, Debug, PartialEq, Eq)]
 struct Corner {
     until: u16,
     from: u16,
 }
 
-// The lesser of two numbers.
-fn lesser(a: u16, b: u16) -> u16
-    ensures { result ≡ min a b }
-{
-    if a < b {
-        return a;
-    }
-    b
+// The corners of all fibres, that of fibre q at entry q - 1; 0 in `untils` shuts out nobody.
+// Fixed memory: an `Option` in each cell would take twice as much.
+#[derive(Drop)]
+pub struct Corners {
+    pub untils: [u16; 2048],
+    pub froms: [u16; 2048],
 }
 
-// The greater of two numbers.
-fn greater(a: u16, b: u16) -> u16
-    ensures { result ≡ max a b }
-{
-    if a < b {
-        return b;
-    }
-    a
+// The first and last links of all fibres, those of fibre q at entry q - 1.
+#[derive(Drop)]
+pub struct Spans {
+    pub firsts: [u16; 2048],
+    pub lasts: [u16; 2048],
 }
 
 // The corner x, drawn in by the rider at place j if it overlaps c.
-fn drawn_in(ends: &[u8], j: usize, c: records::Circuit, x: Corner) -> Corner
+#[tactic(auto, unfolding(crate::specs::inner::Marking::overlapping))]
+fn drawn_in(ends: &[u8], j: usize, c: Circuit, x: Corner) -> Corner
     requires { (j < 2048) × (4 * j + 4 ≤ length ends.now) }
     ensures { (result.until ≤ x.until) × (x.from ≤ result.from) × Bounded (cell ends.now (2 * j)) (cell ends.now (2 * j + 1)) c result.until result.from }
 {
-    let a = records::cells::get(ends, 2 * j);
-    let b = records::cells::get(ends, 2 * j + 1);
-    if c.last < a {
-        return x;
-    }
-    if b < c.first {
-        return x;
-    }
-    Corner {
-        until: lesser(b, x.until),
-        from: greater(a, x.from),
+    match riders::overlapping(ends, j, c) {
+        Some((first, last)) => Corner {
+            until: last.min(x.until),
+            from: first.max(x.from),
+        },
+        None => x,
     }
 }
 
-// The corner of the riders of a chain that overlap c: none of them ends before `until` or begins after `from`.
-fn corner_on(ends: &[u8], next: &[u16], head: usize, c: records::Circuit) -> Corner
-    requires next_len { length next.now ≡ 2048 }
-    requires by_index { (rs : List Rider) × (A : List ℕ) × (q : ℕ) × Chained rs ends.now A next.now head q }
-    ensures { (rs : List Rider) (A : List ℕ) (q : ℕ) → Chained rs ends.now A next.now head q → Cornered rs c q result.until result.from }
+// The corner of the riders of fibre q that overlap c: none of them ends before `until` or begins after `from`.
+fn corner_on(ends: &[u8], chains: &Chains<2048>, q: usize, c: Circuit) -> Corner
+    requires fibre { (1 ≤ q) × (q ≤ 2048) }
+    requires chained { (rs : List Rider) × (A : List ℕ) × Chained rs ends.now A chains.now.next (get_or chains.now.heads (q - 1) 0) q }
+    ensures { (rs : List Rider) (A : List ℕ) → Chained rs ends.now A chains.now.next (get_or chains.now.heads (q - 1) 0) q → Cornered rs c q result.until result.from }
 {
     let mut x = Corner {
         until: 65535,
         from: 0,
     };
-    let mut z = head;
-    while 0 < z {
-        x = drawn_in(ends, z - 1, c, x);
-        z = records::numbers::index(next[z - 1]);
+    let mut at = chains.first(q - 1);
+    while let Some(j) = at {
+        x = drawn_in(ends, j, c, x);
+        at = chains.after(j);
     }
     x
 }
 
 // The first and last links of the fibres, in two columns.
-pub fn note_spans(fibres: &[u8], many: usize, firsts: &mut [u16], lasts: &mut [u16])
-    requires { (many ≤ 2048) × (8 * many ≤ length fibres.now) × (length firsts.old ≡ 2048) × (length lasts.old ≡ 2048) }
-    ensures { Columns many fibres.now firsts.new lasts.new }
+pub fn note_spans(fibres: &[u8], many: usize, spans: &mut Spans)
+    requires { (many ≤ 2048) × (8 * many ≤ length fibres.now) }
+    ensures { Columns many fibres.now spans.new.firsts spans.new.lasts }
 {
     for i in 0..many {
-        let f = records::fibre_at(fibres, i);
-        firsts[i] = f.first;
-        lasts[i] = f.last;
+        let f = records::record_at::<FibreRecord>(fibres, i);
+        spans.firsts[i] = f.first;
+        spans.lasts[i] = f.last;
     }
 }
 
-// 1 for true, 0 for false.
-fn one_if(t: bool) -> u16
-    ensures { (result ≡ cond t 1 0) × (result ≤ 1) }
+// Whether the fibre of entry i spans c and does not shut it out; the four tests are all made, since the machine then makes them in many places at once.
+#[tactic(auto, unfolding(crate::specs::inner::Spots::open_to, crate::specs::inner::Spots::within))]
+fn open_to(spans: &Spans, corners: &Corners, i: usize, c: Circuit) -> bool
+    requires { i < 2048 }
+    ensures { result ≡ open_to spans.now.firsts spans.now.lasts corners.now.untils corners.now.froms c i }
 {
-    if t { 1 } else { 0 }
+    let spanned = (spans.firsts[i] <= c.first) & (c.last <= spans.lasts[i]);
+    let shut = (c.first <= corners.untils[i]) & (corners.froms[i] <= c.last);
+    spanned & !shut
 }
 
-// 1 if both are 1, else 0; a product, since the machine multiplies in many places at once and branches in one.
-fn both(a: u16, b: u16) -> u16
-    requires { (a ≤ 1) × (b ≤ 1) }
-    ensures { (result ≡ a * b) × (result ≤ 1) }
-{
-    a * b
-}
-
-// 1 if the fibre of entry i spans c and does not shut it out, else 0.
-fn open_to(
-    firsts: &[u16],
-    lasts: &[u16],
-    untils: &[u16],
-    froms: &[u16],
-    i: usize,
-    c: records::Circuit,
-) -> u16
-    requires { (i < 2048) × Tables firsts.now lasts.now untils.now froms.now }
-    ensures { (result ≡ cond (open_to firsts.now lasts.now untils.now froms.now c i) 1 0) × (result ≤ 1) }
-{
-    let spanned = both(one_if(firsts[i] <= c.first), one_if(c.last <= lasts[i]));
-    let shut = both(one_if(c.first <= untils[i]), one_if(froms[i] <= c.last));
-    both(spanned, 1 - shut)
-}
-
-// Whether one of the 32 fibres from entry i on is open to c; hits are counted, with no exit inside.
-fn any_open_of_32(
-    firsts: &[u16],
-    lasts: &[u16],
-    untils: &[u16],
-    froms: &[u16],
-    i: usize,
-    c: records::Circuit,
-) -> bool
-    requires { (i + 32 ≤ 2048) × Tables firsts.now lasts.now untils.now froms.now }
-    ensures { result ≡ any (λ k. open_to firsts.now lasts.now untils.now froms.now c (i + k)) 32 }
-{
-    let mut hits: u16 = 0;
-    let mut k = 0;
-    while k < 32 {
-        hits = hits + open_to(firsts, lasts, untils, froms, i + k, c);
-        k += 1;
-    }
-    hits != 0
-}
-
-// How far the search may go in whole chunks of 32 fibres none of which is open to c.
-fn skip_32(
-    firsts: &[u16],
-    lasts: &[u16],
-    untils: &[u16],
-    froms: &[u16],
-    from: usize,
-    many: usize,
-    c: records::Circuit,
-) -> usize
-    requires { (from ≤ many) × (many ≤ 2048) × Tables firsts.now lasts.now untils.now froms.now }
-    ensures { CameTo (open_to firsts.now lasts.now untils.now froms.now c) from many result }
-{
-    let mut i = from;
-    while i + 32 <= many && !any_open_of_32(firsts, lasts, untils, froms, i, c) {
-        i += 32;
-    }
-    i
-}
-
-// The first entry from `from` on whose fibre is open to c, or `many`.
+// The first entry from `from` on, before `many`, whose fibre is open to c.
+#[tactic(auto, unfolding(crate::specs::inner::Spots::before))]
 fn next_open(
-    firsts: &[u16],
-    lasts: &[u16],
-    untils: &[u16],
-    froms: &[u16],
+    spans: &Spans,
+    corners: &Corners,
     from: usize,
     many: usize,
-    c: records::Circuit,
-) -> usize
-    requires { (from ≤ many) × (many ≤ 2048) × Tables firsts.now lasts.now untils.now froms.now }
-    ensures { result ≡ seek (open_to firsts.now lasts.now untils.now froms.now c) from (many - from) }
+    c: Circuit,
+) -> Option<usize>
+    requires { (from ≤ many) × (many ≤ 2048) }
+    ensures { result ≡ before many (seek (open_to spans.now.firsts spans.now.lasts corners.now.untils corners.now.froms c) from (many - from)) }
 {
-    let mut i = skip_32(firsts, lasts, untils, froms, from, many, c);
-    while i < many {
-        if open_to(firsts, lasts, untils, froms, i, c) != 0 {
-            return i;
-        }
-        i += 1;
+    let i = scans::first_where::<32, _>(|i| open_to(spans, corners, i, c), from, many);
+    if i < many {
+        return Some(i);
     }
-    many
+    None
 }
 
-// The lowest wavelength from lo to hi that is free for c on fibre q, or past hi; a fibre that has none gets a new corner.
+// The lowest wavelength of `waves` that is free for c on fibre q; a fibre that has none gets a new corner.
 fn offer(
     q: usize,
     ends: &[u8],
     assigns: &[u8],
-    next: &[u16],
-    head: usize,
-    c: records::Circuit,
-    lo: usize,
-    hi: usize,
-    untils: &mut [u16],
-    froms: &mut [u16],
-) -> usize
-    requires le_q { (1 ≤ q) × (q ≤ 2048) × (length next.now ≡ 2048) × (1 ≤ lo) × (hi < 96) × (length untils.old ≡ 2048) × (length froms.old ≡ 2048) }
-    requires chained { (rs : List Rider) × Chained rs ends.now assigns.now next.now head q }
-    ensures { (many : ℕ) (rs : List Rider) → q ≤ many → many ≤ 2048 → Chained rs ends.now assigns.now next.now head q → Corners many lo hi rs untils.old froms.old → (result ≡ free_wavelength lo hi rs c q) × Corners many lo hi rs untils.new froms.new }
+    chains: &Chains<2048>,
+    c: Circuit,
+    waves: Waves,
+    corners: &mut Corners,
+) -> Option<u16>
+    requires numbers { (1 ≤ q) × (q ≤ 2048) }
+    requires chained { (rs : List Rider) × Chained rs ends.now assigns.now chains.now.next (get_or chains.now.heads (q - 1) 0) q }
+    ensures { (many : ℕ) (rs : List Rider) → q ≤ many → many ≤ 2048 → Chained rs ends.now assigns.now chains.now.next (get_or chains.now.heads (q - 1) 0) q → CornersHold many waves.low waves.high rs corners.old.untils corners.old.froms → (result ≡ up_to waves.high (free_wavelength waves.low waves.high rs c q)) × CornersHold many waves.low waves.high rs corners.new.untils corners.new.froms }
 {
-    let v = riders::free_on(ends, assigns, next, head, c, lo, hi);
-    if v <= hi {
-        return v;
+    let free = riders::free_on(ends, assigns, chains, q, c, waves);
+    if free.is_none() {
+        let x = corner_on(ends, chains, q, c);
+        corners.untils[q - 1] = x.until;
+        corners.froms[q - 1] = x.from;
     }
-    let x = corner_on(ends, next, head, c);
-    untils[q - 1] = x.until;
-    froms[q - 1] = x.from;
-    v
+    free
 }
 
-// The lowest place for c on the fibres 1 to `many` and their wavelengths lo to hi. Only fibres open to c are asked; untils and froms are their corners.
+// The lowest place for c on the fibres 1 to `many` and their wavelengths of `waves`. Only fibres open to c are asked.
 pub fn spot_for(
-    firsts: &[u16],
-    lasts: &[u16],
+    spans: &Spans,
     many: usize,
     ends: &[u8],
     assigns: &[u8],
-    heads: &[u16],
-    next: &[u16],
-    c: records::Circuit,
-    lo: usize,
-    hi: usize,
-    untils: &mut [u16],
-    froms: &mut [u16],
-) -> Spot
-    requires many_bound { (many ≤ 2048) × (length heads.now ≡ 2048) × (length next.now ≡ 2048) × (1 ≤ lo) × (hi < 96) × (1 ≤ c.first) × Tables firsts.now lasts.now untils.old froms.old }
-    requires riding { (rs : List Rider) × Riding many rs ends.now assigns.now heads.now next.now }
-    ensures { (rs : List Rider) → Riding many rs ends.now assigns.now heads.now next.now → Corners many lo hi rs untils.old froms.old → Spotted (spans_in many firsts.now lasts.now) lo hi rs c result.fibre result.wavelength × Corners many lo hi rs untils.new froms.new }
+    chains: &Chains<2048>,
+    c: Circuit,
+    waves: Waves,
+    corners: &mut Corners,
+) -> Option<Spot>
+    requires numbers { (many ≤ 2048) × (1 ≤ c.first) }
+    requires riding { (rs : List Rider) × Riding many rs ends.now assigns.now chains.now.heads chains.now.next }
+    ensures { (rs : List Rider) → Riding many rs ends.now assigns.now chains.now.heads chains.now.next → CornersHold many waves.low waves.high rs corners.old.untils corners.old.froms → Spotted (spans_in many spans.now.firsts spans.now.lasts) waves.low waves.high rs c result × CornersHold many waves.low waves.high rs corners.new.untils corners.new.froms }
 {
-    let mut i = next_open(firsts, lasts, untils, froms, 0, many, c);
-    while i < many {
-        let h = records::numbers::index(heads[i]);
-        let v = offer(i + 1, ends, assigns, next, h, c, lo, hi, untils, froms);
-        if v <= hi {
-            return Spot {
+    let mut from = 0;
+    while let Some(i) = next_open(spans, corners, from, many, c) {
+        if let Some(v) = offer(i + 1, ends, assigns, chains, c, waves, corners) {
+            return Some(Spot {
                 fibre: (i + 1) as u16,
-                wavelength: v as u16,
-            };
+                wavelength: v,
+            });
         }
-        i = next_open(firsts, lasts, untils, froms, i + 1, many, c);
+        from = i + 1;
     }
-    Spot {
-        fibre: 0,
-        wavelength: 0,
-    }
+    None
 }
 
-// What fibre q offers c: the lowest free wavelength from lo to hi if the fibre spans c, or past hi.
+// What fibre q offers c: the lowest free wavelength of `waves`, if the fibre spans c.
 fn offered(
     fibres: &[u8],
-    many: usize,
     q: usize,
     ends: &[u8],
     assigns: &[u8],
-    next: &[u16],
-    head: usize,
-    c: records::Circuit,
-    lo: usize,
-    hi: usize,
-) -> usize
-    requires le_q { (1 ≤ q) × (q ≤ many) × (many ≤ 2048) × (8 * many ≤ length fibres.now) × (length next.now ≡ 2048) × (1 ≤ lo) × (hi < 96) }
-    requires chained { (rs : List Rider) × Chained rs ends.now assigns.now next.now head q }
-    ensures { (rs : List Rider) → Chained rs ends.now assigns.now next.now head q → Offers (spans_of many fibres.now) lo hi rs c q result }
+    chains: &Chains<2048>,
+    c: Circuit,
+    waves: Waves,
+) -> Option<u16>
+    requires numbers { (1 ≤ q) × (q ≤ 2048) × (8 * q ≤ length fibres.now) }
+    requires chained { (rs : List Rider) × Chained rs ends.now assigns.now chains.now.next (get_or chains.now.heads (q - 1) 0) q }
+    ensures { (many : ℕ) (rs : List Rider) → q ≤ many → Chained rs ends.now assigns.now chains.now.next (get_or chains.now.heads (q - 1) 0) q → Offers (spans_of many fibres.now) waves.low waves.high rs c q result }
 {
-    let f = records::fibre_at(fibres, q - 1);
-    if c.first < f.first {
-        return hi + 1;
+    let f = records::record_at::<FibreRecord>(fibres, q - 1);
+    if c.first < f.first || f.last < c.last {
+        return None;
     }
-    if f.last < c.last {
-        return hi + 1;
-    }
-    riders::free_on(ends, assigns, next, head, c, lo, hi)
+    riders::free_on(ends, assigns, chains, q, c, waves)
 }
 
-// The lowest place for c on the fibres 1 to `many` and their wavelengths lo to hi, one fibre after the other: a single question pays no corners.
+// The lowest place for c on the fibres 1 to `many` and their wavelengths of `waves`, one fibre after the other: a single question pays no corners.
 pub fn lowest_spot(
     fibres: &[u8],
     many: usize,
     ends: &[u8],
     assigns: &[u8],
-    heads: &[u16],
-    next: &[u16],
-    c: records::Circuit,
-    lo: usize,
-    hi: usize,
-) -> Spot
-    requires many_bound { (many ≤ 2048) × (8 * many ≤ length fibres.now) × (length heads.now ≡ 2048) × (length next.now ≡ 2048) × (1 ≤ lo) × (hi < 96) }
-    requires riding { (rs : List Rider) × Riding many rs ends.now assigns.now heads.now next.now }
-    ensures { (rs : List Rider) → Riding many rs ends.now assigns.now heads.now next.now → Spotted (spans_of many fibres.now) lo hi rs c result.fibre result.wavelength }
+    chains: &Chains<2048>,
+    c: Circuit,
+    waves: Waves,
+) -> Option<Spot>
+    requires numbers { (many ≤ 2048) × (8 * many ≤ length fibres.now) }
+    requires riding { (rs : List Rider) × Riding many rs ends.now assigns.now chains.now.heads chains.now.next }
+    ensures { (rs : List Rider) → Riding many rs ends.now assigns.now chains.now.heads chains.now.next → Spotted (spans_of many fibres.now) waves.low waves.high rs c result }
 {
-    let mut q = 1;
-    while q <= many {
-        let h = records::numbers::index(heads[q - 1]);
-        let v = offered(fibres, many, q, ends, assigns, next, h, c, lo, hi);
-        if v <= hi {
-            return Spot {
+    for q in 1..many + 1 {
+        if let Some(v) = offered(fibres, q, ends, assigns, chains, c, waves) {
+            return Some(Spot {
                 fibre: q as u16,
-                wavelength: v as u16,
-            };
+                wavelength: v,
+            });
         }
-        q += 1;
     }
-    Spot {
-        fibre: 0,
-        wavelength: 0,
-    }
+    None
 }

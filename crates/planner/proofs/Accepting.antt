@@ -12,6 +12,7 @@ use Rattle.grid.proofs.FrequencyLaws.{limit_small}
 use Rattle.method.specs.Line.{Distinct, Lies, circuit, nobody}
 use Rattle.method.specs.LitDemands.{LitDemand}
 use Rattle.method.proofs.LitDemands.{lit_demand}
+use Rattle.refusals.specs.declared.Reason.TheVariants.{FibreRoom, AssignmentRoom, WorkRoom}
 use Rattle.refusals.specs.Given.{NoneApplies}
 use Rattle.refusals.specs.Table.{file_rows, line_rows, record_rows, circuit_rows, area_rows, plan_table}
 use Rattle.refusals.proofs.Passed.{passed_room, passed1, passed2, passed3, passed4, passed6, passed7}
@@ -90,7 +91,7 @@ module _ (line : Line) (s : List ℕ) (fibres assigns work : ℕ) (passed : None
   unfolding area_rows
   rooms =
       let m = length s / 8 in (
-        passed_room 8 (8 * m) fibres (none_first _ _ of_areas),
-        passed_room 9 (8 * m) assigns (none_first _ _ (none_rest _ _ of_areas)),
-        passed_room 10 (4 * line.links + 4 * m) work (none_first _ _ (none_rest _ _ (none_rest _ _ of_areas))),
+        passed_room FibreRoom (8 * m) fibres (none_first _ _ of_areas),
+        passed_room AssignmentRoom (8 * m) assigns (none_first _ _ (none_rest _ _ of_areas)),
+        passed_room WorkRoom (4 * line.links + 4 * m) work (none_first _ _ (none_rest _ _ (none_rest _ _ of_areas))),
       )

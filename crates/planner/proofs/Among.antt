@@ -14,6 +14,10 @@ use Rattle.records.specs.declared.Circuit.{Circuit}
 use Rattle.records.specs.declared.Line.{Line}
 use Rattle.records.proofs.Files.{circuits_in_at, length_circuits_in}
 use Rattle.method.specs.Line.{Distinct, circuit, nobody}
+use Rattle.std.specs.Prelude.{Option as Told}
+use Rattle.refusals.specs.declared.Reason.{Reason}
+use Rattle.refusals.specs.declared.Reason.TheVariants.{PartRecord, TooManyCircuits, NumberZero, WrongEnd, NumberTwice, FibreRoom, AssignmentRoom, WorkRoom}
+use Rattle.refusals.specs.declared.End.{End}
 use Rattle.refusals.specs.Given.{NoneApplies}
 use Rattle.refusals.specs.Table.{bad_ends, first_record, no_end, repeats, whenever, wherever, wrong_end, file_rows, line_rows, record_rows, circuit_rows, area_rows, plan_table}
 use Rattle.refusals.proofs.First.{record_none}
@@ -39,12 +43,12 @@ module _ (line : Line) (s s' : List ℕ) (among : Among s s') (passed : NoneAppl
       (x.0, b, sym (circuits_in_at (length s' / 8) s' j nobody h) ∙ x.2 ∙ circuits_in_at (length s / 8) s x.0 nobody b)
 
   -- what fails for every record of the one file fails for every record of the other
-  none_either : (number : ℕ) (end end' : ℕ → ℕ) (p : Circuit → Bool) → wherever number end (first_record (λ i. p (circuit_of (record_at s i))) (length s / 8)) ≡ none
-      → wherever number end' (first_record (λ i. p (circuit_of (record_at s' i))) (length s' / 8)) ≡ none
-  none_either number end end' p e =
-      ap (wherever number end')
+  none_either : (reason : Reason) (end end' : ℕ → Told End) (p : Circuit → Bool) → wherever reason end (first_record (λ i. p (circuit_of (record_at s i))) (length s / 8)) ≡ none
+      → wherever reason end' (first_record (λ i. p (circuit_of (record_at s' i))) (length s' / 8)) ≡ none
+  none_either reason end end' p e =
+      ap (wherever reason end')
       (first_end (λ i. p (circuit_of (record_at s' i))) (length s' / 8)
-      (λ j h. let t = twin j h in ap p t.2 ∙ record_none (λ i. p (circuit_of (record_at s i))) (length s / 8) (wherever_none number end _ e) t.0 t.1))
+      (λ j h. let t = twin j h in ap p t.2 ∙ record_none (λ i. p (circuit_of (record_at s i))) (length s / 8) (wherever_none reason end _ e) t.0 t.1))
 
   -- no record repeats a number
   no_repeat : first_record (repeats s') (length s' / 8) ≡ none
@@ -68,17 +72,17 @@ module _ (line : Line) (s s' : List ℕ) (among : Among s s') (passed : NoneAppl
   unfolding file_rows
   file_passes =
       let p = passed2 (length s / 8) (none_first _ _ (none_rest _ _ (of_file line s passed))) in
-      none_more _ _ (ap (λ (b : Bool). whenever 1 (not b)) (eq-eqb (length s' % 8) 0 among.whole))
-      (none_more _ _ (passes_room 2 (length s' / 8) 2048 (omega (arith, among.few))) none_end)
+      none_more _ _ (ap (λ (b : Bool). whenever PartRecord (not b)) (eq-eqb (length s' % 8) 0 among.whole))
+      (none_more _ _ (passes_room TooManyCircuits (length s' / 8) 2048 (omega (arith, among.few))) none_end)
 
   -- the tests of the records
   records_pass : NoneApplies (record_rows line.links (length s' / 8) s')
   unfolding record_rows
   records_pass =
       let p = of_records line s passed in
-      none_more _ _ (none_either 5 no_end no_end (λ c. eqb c.number 0) (none_first _ _ p))
-      (none_more _ _ (none_either 6 (λ x. wrong_end line.links (circuit_of (record_at s x))) (λ x. wrong_end line.links (circuit_of (record_at s' x))) (bad_ends line.links) (none_first _ _ (none_rest _ _ p)))
-      (none_more _ _ (ap (wherever 7 no_end) no_repeat) none_end))
+      none_more _ _ (none_either NumberZero no_end no_end (λ c. eqb c.number 0) (none_first _ _ p))
+      (none_more _ _ (none_either WrongEnd (λ x. wrong_end line.links (circuit_of (record_at s x))) (λ x. wrong_end line.links (circuit_of (record_at s' x))) (bad_ends line.links) (none_first _ _ (none_rest _ _ p)))
+      (none_more _ _ (ap (wherever NumberTwice no_end) no_repeat) none_end))
 
   -- so tests 1 to 7 and 12
   pub circuits_pass : NoneApplies (circuit_rows line s')
@@ -98,9 +102,9 @@ unfolding area_rows
 areas_pass line s s' among fibres assigns work fibres' assigns' work' a b c passed =
     let r = rooms line s fibres assigns work passed in
     let m = among.few in
-    none_more _ _ (passes_room 8 _ fibres' (omega (arith, r.0)))
-    (none_more _ _ (passes_room 9 _ assigns' (omega (arith, r.1)))
-    (none_more _ _ (passes_room 10 _ work' (omega (arith, r.2))) none_end))
+    none_more _ _ (passes_room FibreRoom _ fibres' (omega (arith, r.0)))
+    (none_more _ _ (passes_room AssignmentRoom _ assigns' (omega (arith, r.1)))
+    (none_more _ _ (passes_room WorkRoom _ work' (omega (arith, r.2))) none_end))
 
 -- so, with such lent areas, none of the tests applies
 pub among_passes : (line : Line) (s s' : List ℕ) → Among s s' → (fibres assigns work fibres' assigns' work' : ℕ) → fibres ≤ fibres' → assigns ≤ assigns' → work ≤ work'

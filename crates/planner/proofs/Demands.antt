@@ -6,6 +6,7 @@ use mathlib.Core.List.{List, ◌++◌}
 use mathlib.Core.Option.{some}
 use mathlib.Core.Path.{◌∙◌, ◌≡◌, ap, refl, subst, sym}
 use native.Mathlib.Omega.{arith}
+use Rattle.std.specs.Prelude.{Ok, Err, Result}
 use Rattle.records.specs.Records.{assignment_bytes, circuits_of, number_in, record_at}
 use Rattle.records.specs.declared.Line.{Line}
 use Rattle.records.proofs.Files.{circuits_in_at, length_circuits_in}
@@ -15,9 +16,8 @@ use Rattle.method.specs.Line.{Plan, Valid, assigned, circuit, fibres_over, no_fi
 use Rattle.method.specs.LitDemands.{LitDemand, LitRules, lit_fibres}
 use Rattle.method.proofs.Rearranged.{rearranged_once}
 use Rattle.refusals.specs.Given.{NoneApplies}
-use Rattle.refusals.specs.Refusals.{Refusal, refused_with}
-use Rattle.refusals.specs.declared.Verdict.{Verdict}
-use Rattle.refusals.specs.declared.Verdict.TheVariants.{Checked, Refused as Failed}
+use Rattle.refusals.specs.Refusals.{refusal_in}
+use Rattle.refusals.specs.declared.Refusal.{Refusal}
 use Rattle.refusals.proofs.EndLaws.{plan_tells}
 use Rattle.refusals.proofs.First.{verdict_given, verdict_passed, verdict_passes, verdict_refused}
 use Rattle.register.specs.Areas.{Areas, zeroed_to}
@@ -26,10 +26,8 @@ use Rattle.register.specs.Plans.{plan_in}
 use Rattle.register.specs.declared.Counts.{Counts}
 use Rattle.register.proofs.Reading.{assignment_read, assignment_record_lem, fibre_read, fibre_record_lem, length_assignment_records, length_fibre_records, plan_read}
 use Rattle.rows.specs.Accepted.{Accepted}
-use Rattle.planner.specs.Outcome.{Outcome, answer_by, if_accepted, judged, numbers_of, plan_of, refusal_of, table_for}
+use Rattle.planner.specs.Outcome.{Answer, Outcome, answer_by, if_accepted, judged, numbers_of, plan_of, table_for}
 use Rattle.planner.specs.Seen.{SameSheet, Seen, Seen1, Seen2, Seen3, TwoOrders, held}
-use Rattle.planner.specs.declared.Answer.{Answer}
-use Rattle.planner.specs.declared.Answer.TheVariants.{Planned}
 use Rattle.planner.proofs.Accepting.{accepted, of_circuits, promised}
 use Rattle.planner.proofs.Among.{Among, among_passes}
 
@@ -39,38 +37,38 @@ grid_idle n w a b s = (refl, refl)
 
 module _ (line : Line) (s : List ℕ) (before after : Areas) (answer : Answer) (o : Outcome line s before after answer) where
   -- a refusal is the verdict's, and changes nothing
-  refused_so : (r : Refusal) → refusal_of answer ≡ some r → (judged line s before ≡ refused_with r) × (after ≡ before)
+  refused_so : (r : Refusal) → refusal_in answer ≡ some r → (judged line s before ≡ Err r) × (after ≡ before)
   refused_so r e = go (judged line s before) refl o.answered o.listed o.assigned o.cleared
     where
-      go : (t : Verdict) → judged line s before ≡ t → answer ≡ answer_by t (numbers_of line s)
+      go : (t : Result ℕ Refusal) → judged line s before ≡ t → answer ≡ answer_by t (numbers_of line s)
           → after.fibres ≡ if_accepted t (fibre_list 0 (plan_of line s).fibres before.fibres) before.fibres
           → after.assigns ≡ if_accepted t (assignment_list 0 (circuits_of s) (plan_of line s).assignments before.assigns) before.assigns
           → after.work ≡ if_accepted t (zeroed_to (4 * line.links + 4 * (length s / 8)) before.work) before.work
-          → (judged line s before ≡ refused_with r) × (after ≡ before)
-      go (Checked m) q a f g h = let z = sym (ap refusal_of a) ∙ e in absurd (let y : ◌≡◌ {A = ℕ} 0 1 = cc in omega arith)
-      go (Failed k p d) q a f g h =
-          let z = sym (ap refusal_of a) ∙ e in
-          (q ∙ (let y : Failed k p d ≡ refused_with r = cc in y), λ i. record { fibres = f i; assigns = g i; work = h i })
+          → (judged line s before ≡ Err r) × (after ≡ before)
+      go (Ok m) q a f g h = let z = sym (ap refusal_in a) ∙ e in cc
+      go (Err w) q a f g h =
+          let z = sym (ap refusal_in a) ∙ e in
+          (q ∙ (let y : w ≡ r = cc in ap Err y), λ i. record { fibres = f i; assigns = g i; work = h i })
 
   -- a planned answer has the plan's numbers, and the lists are written
-  pub planned_so : (counts : Counts) → answer ≡ Planned counts
+  pub planned_so : (counts : Counts) → answer ≡ Ok counts
       → NoneApplies (table_for line s before) × (counts ≡ numbers_of line s) × (after.fibres ≡ fibre_list 0 (plan_of line s).fibres before.fibres)
       × (after.assigns ≡ assignment_list 0 (circuits_of s) (plan_of line s).assignments before.assigns)
       × (after.work ≡ zeroed_to (4 * line.links + 4 * (length s / 8)) before.work)
   unfolding judged
   planned_so counts e = go (judged line s before) refl o.answered o.listed o.assigned o.cleared
     where
-      go : (t : Verdict) → judged line s before ≡ t → answer ≡ answer_by t (numbers_of line s)
+      go : (t : Result ℕ Refusal) → judged line s before ≡ t → answer ≡ answer_by t (numbers_of line s)
           → after.fibres ≡ if_accepted t (fibre_list 0 (plan_of line s).fibres before.fibres) before.fibres
           → after.assigns ≡ if_accepted t (assignment_list 0 (circuits_of s) (plan_of line s).assignments before.assigns) before.assigns
           → after.work ≡ if_accepted t (zeroed_to (4 * line.links + 4 * (length s / 8)) before.work) before.work
           → NoneApplies (table_for line s before) × (counts ≡ numbers_of line s) × (after.fibres ≡ fibre_list 0 (plan_of line s).fibres before.fibres)
           × (after.assigns ≡ assignment_list 0 (circuits_of s) (plan_of line s).assignments before.assigns)
           × (after.work ≡ zeroed_to (4 * line.links + 4 * (length s / 8)) before.work)
-      go (Checked m) q a f g h =
-          let z : Planned (numbers_of line s) ≡ Planned counts = sym a ∙ e in
+      go (Ok m) q a f g h =
+          let z : ◌≡◌ {A = Answer} (Ok (numbers_of line s)) (Ok counts) = sym a ∙ e in
           ((verdict_passed (table_for line s before) (length s / 8) m q).1, cc, f, g, h)
-      go (Failed k p d) q a f g h = let z = sym e ∙ a in absurd (let y : ◌≡◌ {A = ℕ} 0 1 = cc in omega arith)
+      go (Err w) q a f g h = let z = sym e ∙ a in cc
 
   -- demand 1
   pub seen_1 : Seen1 line s before after answer
@@ -78,13 +76,13 @@ module _ (line : Line) (s : List ℕ) (before after : Areas) (answer : Answer) (
   seen_1 =
       record {
         as_tabled = λ r e. verdict_refused (table_for line s before) (length s / 8) r (refused_so r e).0;
-        whenever_tabled = λ r g. ap refusal_of (o.answered ∙ ap (λ (t : Verdict). answer_by t (numbers_of line s)) (verdict_given (table_for line s before) (length s / 8) r g));
-        otherwise_planned = λ f. (numbers_of line s, o.answered ∙ ap (λ (t : Verdict). answer_by t (numbers_of line s)) (verdict_passes (table_for line s before) (length s / 8) f));
+        whenever_tabled = λ r g. ap refusal_in (o.answered ∙ ap (λ (t : Result ℕ Refusal). answer_by t (numbers_of line s)) (verdict_given (table_for line s before) (length s / 8) r g));
+        otherwise_planned = λ f. (numbers_of line s, o.answered ∙ ap (λ (t : Result ℕ Refusal). answer_by t (numbers_of line s)) (verdict_passes (table_for line s before) (length s / 8) f));
         end_told = λ r e. (let g = verdict_refused (table_for line s before) (length s / 8) r (refused_so r e).0 in (plan_tells line s _ _ _).at g.index r g.below g.here);
         unchanged = λ r e. (refused_so r e).1;
       }
 
-  module _ (counts : Counts) (e : answer ≡ Planned counts) where
+  module _ (counts : Counts) (e : answer ≡ Ok counts) where
     -- what the tests left
     took : Accepted line.links line.wavelengths (length s / 8) s
     took = accepted line s (of_circuits line s _ _ _ (planned_so counts e).0)
@@ -207,7 +205,7 @@ number_read r i h = ap (λ c. c.number) (circuits_in_at (length r / 8) r i nobod
 
 -- TWO CALLS with the same records in another file order, and lent areas of the same lengths
 module _ (line : Line) (s s' : List ℕ) (before after before' after' : Areas) (answer answer' : Answer) (orders : TwoOrders line s s' before after before' after' answer answer')
-    (counts : Counts) (e : answer ≡ Planned counts) where
+    (counts : Counts) (e : answer ≡ Ok counts) where
   -- what the first call's tests left
   passed : NoneApplies (table_for line s before)
   passed = (planned_so line s before after answer orders.one counts e).0
@@ -235,14 +233,14 @@ module _ (line : Line) (s s' : List ℕ) (before after before' after' : Areas) (
       among_passes line s s' among _ _ _ _ _ _ (omega (arith, orders.rooms.0)) (omega (arith, orders.rooms.1)) (omega (arith, orders.rooms.2)) passed
 
   -- so it is planned, with the same numbers
-  planned_too : answer' ≡ Planned counts
+  planned_too : answer' ≡ Ok counts
   unfolding counts_of
   planned_too =
       let p = (seen_1 line s' before' after' answer' orders.two).otherwise_planned passed' in
       let numbers : numbers_of line s ≡ numbers_of line s' =
       λ i. record { fibres = length (alike.fibres_same i); total = alike.total_same i; floor = alike.floor_same i } in
       p.1
-      ∙ ap Planned
+      ∙ ap Ok
       ((planned_so line s' before' after' answer' orders.two p.0 p.1).1
       ∙ sym numbers
       ∙ sym (planned_so line s before after answer orders.one counts e).1)

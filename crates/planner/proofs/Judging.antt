@@ -6,27 +6,26 @@ use native.Mathlib.Omega.{arith}
 use lib.ListN.{length}
 use Rattle.records.specs.Records.{circuits_of}
 use Rattle.records.specs.declared.Line.{Line}
-use Rattle.refusals.specs.declared.Verdict.{Verdict}
-use Rattle.refusals.specs.declared.Verdict.TheVariants.{Checked, Refused as Failed}
+use Rattle.std.specs.Prelude.{Result, Ok, Err}
+use Rattle.refusals.specs.declared.Refusal.{Refusal}
 use Rattle.refusals.specs.Given.{NoneApplies}
 use Rattle.refusals.specs.Table.{verdict}
 use Rattle.refusals.proofs.First.{verdict_passed}
 use Rattle.register.specs.Areas.{Areas, zeroed_to}
 use Rattle.register.specs.Lists.{fibre_list, assignment_list}
 use Rattle.register.specs.declared.Counts.{Counts}
-use Rattle.planner.specs.declared.Answer.TheVariants.{Planned, Refused}
-use Rattle.planner.specs.Outcome.{table_for, judged, plan_of, numbers_of, answer_by, if_accepted, Outcome}
+use Rattle.planner.specs.Outcome.{Answer, table_for, judged, plan_of, numbers_of, answer_by, if_accepted, Outcome}
 use Rattle.planner.specs.Settled.{Admitted, Settled}
 use Rattle.planner.proofs.Accepting.{accepted, of_circuits, rooms}
 
 module _ (line : Line) (s : List ℕ) (before : Areas) where
   -- all tests passed, so no row applies
-  pub none_applies : (m : ℕ) → judged line s before ≡ Checked m → (m ≡ length s / 8) × NoneApplies (table_for line s before)
+  pub none_applies : (m : ℕ) → judged line s before ≡ Ok m → (m ≡ length s / 8) × NoneApplies (table_for line s before)
   unfolding judged
   none_applies m j = verdict_passed (table_for line s before) (length s / 8) m j
 
   -- m circuits passed the tests: they may be planned
-  pub admitted : (m : ℕ) (t : Verdict) → t ≡ verdict (table_for line s before) (length s / 8) → t ≡ Checked m → Admitted line.links line.wavelengths m 0 s before
+  pub admitted : (m : ℕ) (t : Result ℕ Refusal) → t ≡ verdict (table_for line s before) (length s / 8) → t ≡ Ok m → Admitted line.links line.wavelengths m 0 s before
   unfolding judged
   admitted m t a b =
       let p = none_applies m (sym a ∙ b) in
@@ -43,30 +42,30 @@ module _ (line : Line) (s : List ℕ) (before : Areas) where
       })
 
   -- a refusal changes nothing
-  pub refused : (t : Verdict) (number place end : ℕ) → t ≡ verdict (table_for line s before) (length s / 8) → t ≡ Failed number place end → Outcome line s before before (Refused number place end)
+  pub refused : (t : Result ℕ Refusal) (r : Refusal) (answer : Answer) → t ≡ verdict (table_for line s before) (length s / 8) → t ≡ Err r → answer ≡ Err r → Outcome line s before before answer
   unfolding judged
-  refused t number place end a b =
-      let j : judged line s before ≡ Failed number place end = sym a ∙ b in
+  refused t r answer a b e =
+      let j : judged line s before ≡ Err r = sym a ∙ b in
       record {
-        answered = sym (ap (λ (x : Verdict). answer_by x (numbers_of line s)) j);
-        listed = sym (ap (λ (x : Verdict). if_accepted x (fibre_list 0 (plan_of line s).fibres before.fibres) before.fibres) j);
-        assigned = sym (ap (λ (x : Verdict). if_accepted x (assignment_list 0 (circuits_of s) (plan_of line s).assignments before.assigns) before.assigns) j);
-        cleared = sym (ap (λ (x : Verdict). if_accepted x (zeroed_to (4 * line.links + 4 * (length s / 8)) before.work) before.work) j);
+        answered = e ∙ sym (ap (λ (x : Result ℕ Refusal). answer_by x (numbers_of line s)) j);
+        listed = sym (ap (λ (x : Result ℕ Refusal). if_accepted x (fibre_list 0 (plan_of line s).fibres before.fibres) before.fibres) j);
+        assigned = sym (ap (λ (x : Result ℕ Refusal). if_accepted x (assignment_list 0 (circuits_of s) (plan_of line s).assignments before.assigns) before.assigns) j);
+        cleared = sym (ap (λ (x : Result ℕ Refusal). if_accepted x (zeroed_to (4 * line.links + 4 * (length s / 8)) before.work) before.work) j);
       }
 
   -- where all tests passed the circuits are planned
-  pub planned : (m : ℕ) (t : Verdict) (after : Areas) (counts : Counts) → t ≡ verdict (table_for line s before) (length s / 8) → t ≡ Checked m
-      → Settled line.links line.wavelengths m 0 s before after counts → Outcome line s before after (Planned counts)
+  pub planned : (m : ℕ) (t : Result ℕ Refusal) (after : Areas) (counts : Counts) → t ≡ verdict (table_for line s before) (length s / 8) → t ≡ Ok m
+      → Settled line.links line.wavelengths m 0 s before after counts → Outcome line s before after (Ok counts)
   unfolding judged
   planned m t after counts a b o =
-      let j : judged line s before ≡ Checked m = sym a ∙ b in
+      let j : judged line s before ≡ Ok m = sym a ∙ b in
       let e = (none_applies m j).0 in
       let o' : Settled line.links line.wavelengths (length s / 8) 0 s before after counts =
       subst (λ (k : ℕ). Settled line.links line.wavelengths k 0 s before after counts) e o in
       let r = o'.registered in
       record {
-        answered = ap Planned r.counted ∙ sym (ap (λ (x : Verdict). answer_by x (numbers_of line s)) j);
-        listed = r.listed ∙ sym (ap (λ (x : Verdict). if_accepted x (fibre_list 0 (plan_of line s).fibres before.fibres) before.fibres) j);
-        assigned = r.assigned ∙ sym (ap (λ (x : Verdict). if_accepted x (assignment_list 0 (circuits_of s) (plan_of line s).assignments before.assigns) before.assigns) j);
-        cleared = o'.cleared ∙ sym (ap (λ (x : Verdict). if_accepted x (zeroed_to (4 * line.links + 4 * (length s / 8)) before.work) before.work) j);
+        answered = ap Ok r.counted ∙ sym (ap (λ (x : Result ℕ Refusal). answer_by x (numbers_of line s)) j);
+        listed = r.listed ∙ sym (ap (λ (x : Result ℕ Refusal). if_accepted x (fibre_list 0 (plan_of line s).fibres before.fibres) before.fibres) j);
+        assigned = r.assigned ∙ sym (ap (λ (x : Result ℕ Refusal). if_accepted x (assignment_list 0 (circuits_of s) (plan_of line s).assignments before.assigns) before.assigns) j);
+        cleared = o'.cleared ∙ sym (ap (λ (x : Result ℕ Refusal). if_accepted x (zeroed_to (4 * line.links + 4 * (length s / 8)) before.work) before.work) j);
       }

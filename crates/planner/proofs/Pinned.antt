@@ -5,9 +5,8 @@ use mathlib.Core.Path.{◌∙◌, ◌≡◌, sym}
 use Rattle.records.specs.declared.Line.{Line}
 use Rattle.register.specs.Areas.{Areas}
 use Rattle.register.specs.declared.Counts.{Counts}
-use Rattle.planner.specs.Outcome.{Outcome}
+use Rattle.planner.specs.Outcome.{Answer, Outcome}
 use Rattle.planner.specs.Settled.{Settled}
-use Rattle.planner.specs.declared.Answer.{Answer}
 
 -- areas that hold the same bytes
 pub same_areas : (x y : Areas) → x.fibres ≡ y.fibres → x.assigns ≡ y.assigns → x.work ≡ y.work → x ≡ y

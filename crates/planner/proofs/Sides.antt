@@ -5,6 +5,7 @@ use mathlib.Core.List.{List}
 use mathlib.Core.Logic.{⊎_elim}
 use mathlib.Core.Path.{◌∙◌, ◌≡◌, ap, sym}
 use native.Mathlib.Omega.{arith}
+use Rattle.std.specs.Prelude.{Ok}
 use Rattle.records.specs.Records.{circuits_of, number_in}
 use Rattle.records.specs.declared.Circuit.{Circuit}
 use Rattle.records.specs.declared.Line.{Line}
@@ -17,16 +18,14 @@ use Rattle.register.specs.Areas.{Areas}
 use Rattle.register.specs.Plans.{place_of, span_of}
 use Rattle.register.specs.declared.Counts.{Counts}
 use Rattle.register.proofs.Reading.{assigned_in, fibre_in_lem}
-use Rattle.planner.specs.Outcome.{Outcome, plan_of, table_for}
+use Rattle.planner.specs.Outcome.{Answer, Outcome, plan_of, table_for}
 use Rattle.planner.specs.Sides.{SideCalls, SideSheet, assignment_at, fibre_for}
-use Rattle.planner.specs.declared.Answer.{Answer}
-use Rattle.planner.specs.declared.Answer.TheVariants.{Planned}
 use Rattle.planner.proofs.Accepting.{accepted, of_areas, of_circuits}
 use Rattle.planner.proofs.Among.{Among, areas_pass, circuits_pass, table_passes}
 use Rattle.planner.proofs.Demands.{number_read, planned_so, seen_1, seen_2}
 
 -- THE RECORDS OF A PLANNED CALL hold its plan
-module _ (line : Line) (s : List ℕ) (before after : Areas) (answer : Answer) (o : Outcome line s before after answer) (counts : Counts) (e : answer ≡ Planned counts)
+module _ (line : Line) (s : List ℕ) (before after : Areas) (answer : Answer) (o : Outcome line s before after answer) (counts : Counts) (e : answer ≡ Ok counts)
     (j : ℕ) (l : j < length s / 8) where
   -- what circuit j is given
   given_read : assigned (plan_of line s) j ≡ place_of (assignment_at after j)
@@ -41,7 +40,7 @@ module _ (line : Line) (s : List ℕ) (before after : Areas) (answer : Answer) (
 
 -- TWO CALLS, of the whole file and of one side of an idle link
 module _ (line : Line) (z : ℕ) (s s' : List ℕ) (before after before' after' : Areas) (answer answer' : Answer)
-    (calls : SideCalls line z s s' before after before' after' answer answer') (counts : Counts) (e : answer ≡ Planned counts) where
+    (calls : SideCalls line z s s' before after before' after' answer answer') (counts : Counts) (e : answer ≡ Ok counts) where
   -- what the tests left of the whole
   passed : NoneApplies (table_for line s before)
   passed = (planned_so line s before after answer calls.whole counts e).0

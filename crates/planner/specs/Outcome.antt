@@ -1,36 +1,28 @@
 -- What `plan` answers, and what the three lent areas hold afterwards, for every input. What a reader must believe.
 -- Assumes nothing.
-use Rattle.std.specs.Prelude.{ℕ, ◌+◌, ◌*◌, ◌/◌, ◌≡◌, List, length}
-use Rattle.std.proofs.Math.Option.{Option, none, some}
+use Rattle.std.specs.Prelude.{ℕ, ◌+◌, ◌*◌, ◌/◌, ◌≡◌, List, length, Result, Ok, Err}
 use Rattle.records.specs.Records.{circuits_of}
 use Rattle.records.specs.declared.Line.{Line}
 use Rattle.method.specs.Line.{Plan}
 use Rattle.method.specs.Fibres.{floor}
 use Rattle.method.specs.Lit.{lit_plan}
-use Rattle.refusals.specs.Refusals.{Refusal, refusal_in, if_refused}
+use Rattle.refusals.specs.Refusals.{refusal_in, if_refused}
 use Rattle.refusals.specs.Table.{Row, verdict, plan_table}
-use Rattle.refusals.specs.declared.Verdict.{Verdict}
+use Rattle.refusals.specs.declared.Refusal.{Refusal}
 use Rattle.register.specs.Areas.{Areas, zeroed_to}
 use Rattle.register.specs.Lists.{counts_of, fibre_list, assignment_list}
 use Rattle.register.specs.declared.Counts.{Counts}
-use Rattle.planner.specs.declared.Answer.{Answer}
-use Rattle.planner.specs.declared.Answer.TheVariants.{Planned, Refused}
 
--- what an answer refuses: one definition takes each of its cases to a refusal, or none
-abbrev pub refusal_of : Answer → Option Refusal
-refusal_of (Planned counts) = none
-refusal_of (Refused number place end) = some (record { number = number; place = place; end = end })
-
--- the answer that refuses so
-abbrev pub refused_as : Refusal → Answer
-refused_as r = Refused r.number r.place r.end
+-- what `plan` answers: the three numbers of a plan, or a refusal
+abbrev pub Answer : Type 0
+Answer = Result Counts Refusal
 
 -- the table of refusals for a line, circuit bytes s and lent areas
 abbrev pub table_for : Line → List ℕ → Areas → List Row
 table_for line s lent = plan_table line s (length lent.fibres) (length lent.assigns) (length lent.work)
 
 -- the verdict of the tests: the first refusal that applies, or else how many circuits there are
-unfoldable pub judged : Line → List ℕ → Areas → Verdict
+unfoldable pub judged : Line → List ℕ → Areas → Result ℕ Refusal
 judged line s lent = verdict (table_for line s lent) (length s / 8)
 
 -- the plan of R-1, for a file of circuits on a line
@@ -42,11 +34,11 @@ abbrev pub numbers_of : Line → List ℕ → Counts
 numbers_of line s = counts_of (plan_of line s) (floor line.links line.wavelengths (circuits_of s))
 
 -- planned, with the three numbers, or refused, as the table says
-abbrev pub answer_by : Verdict → Counts → Answer
-answer_by v counts = if_refused (refusal_in v) refused_as (Planned counts)
+abbrev pub answer_by : Result ℕ Refusal → Counts → Answer
+answer_by v counts = if_refused (refusal_in v) Err (Ok counts)
 
 -- a lent area is changed only where the circuits were accepted
-abbrev pub if_accepted : Verdict → List ℕ → List ℕ → List ℕ
+abbrev pub if_accepted : Result ℕ Refusal → List ℕ → List ℕ → List ℕ
 if_accepted v after before = if_refused (refusal_in v) (λ r. before) after
 
 -- the answer and every byte of the three lent areas

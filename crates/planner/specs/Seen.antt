@@ -1,7 +1,7 @@
 -- The demands, about what a caller sees: the answer and the bytes of the lent areas. `proofs/Demands.antt` shows `seen`, that every call of `plan` meets `Seen`, and
 -- `same_sheet`, that of `TwoOrders`, if one call is planned, the other gives the `SameSheet`. What a reader must believe.
 -- Assumes nothing.
-use Rattle.std.specs.Prelude.{ℕ, ◌+◌, ◌*◌, ◌/◌, ◌≤◌, ◌<◌, ◌≡◌, List, length, take, drop, replicate}
+use Rattle.std.specs.Prelude.{ℕ, ◌+◌, ◌*◌, ◌/◌, ◌≤◌, ◌<◌, ◌≡◌, List, length, take, drop, replicate, Ok}
 use Rattle.std.proofs.Math.Option.{some}
 use Rattle.records.specs.Records.{record_at, circuits_of, number_in}
 use Rattle.records.specs.declared.Line.{Line}
@@ -10,24 +10,23 @@ use Rattle.method.specs.Sheet.{need}
 use Rattle.method.specs.Fibres.{floor, plan}
 use Rattle.method.specs.Demands.{Rearranged}
 use Rattle.method.specs.LitDemands.{LitRules}
-use Rattle.refusals.specs.Refusals.{Refusal}
+use Rattle.refusals.specs.Refusals.{refusal_in}
+use Rattle.refusals.specs.declared.Refusal.{Refusal}
 use Rattle.refusals.specs.Given.{Given, NoneApplies}
 use Rattle.refusals.specs.Ends.{TellsEnd}
 use Rattle.register.specs.Areas.{Areas}
 use Rattle.register.specs.Plans.{plan_in, Numbered, InFileOrder}
 use Rattle.register.specs.declared.Counts.{Counts}
-use Rattle.planner.specs.Outcome.{refusal_of, table_for, plan_of, Outcome}
-use Rattle.planner.specs.declared.Answer.{Answer}
-use Rattle.planner.specs.declared.Answer.TheVariants.{Planned}
+use Rattle.planner.specs.Outcome.{Answer, table_for, plan_of, Outcome}
 
 module _ (line : Line) (s : List ℕ) (before after : Areas) where
   -- demand 1: a refusal is given exactly as tabled, tells the wrong end as R-6 has it, and then no byte is changed
   pub record Seen1 (answer : Answer) : Type 0 where
-    pub as_tabled : (r : Refusal) → refusal_of answer ≡ some r → Given (table_for line s before) r
-    pub whenever_tabled : (r : Refusal) → Given (table_for line s before) r → refusal_of answer ≡ some r
-    pub otherwise_planned : NoneApplies (table_for line s before) → (counts : Counts) × (answer ≡ Planned counts)
-    pub end_told : (r : Refusal) → refusal_of answer ≡ some r → TellsEnd line.links (length s / 8) s r
-    pub unchanged : (r : Refusal) → refusal_of answer ≡ some r → after ≡ before
+    pub as_tabled : (r : Refusal) → refusal_in answer ≡ some r → Given (table_for line s before) r
+    pub whenever_tabled : (r : Refusal) → Given (table_for line s before) r → refusal_in answer ≡ some r
+    pub otherwise_planned : NoneApplies (table_for line s before) → (counts : Counts) × (answer ≡ Ok counts)
+    pub end_told : (r : Refusal) → refusal_in answer ≡ some r → TellsEnd line.links (length s / 8) s r
+    pub unchanged : (r : Refusal) → refusal_in answer ≡ some r → after ≡ before
 
   -- the plan that the two lists hold
   abbrev pub held : Counts → Plan
@@ -66,12 +65,12 @@ module _ (line : Line) (s : List ℕ) (before after : Areas) where
   -- one call of `plan`: demand 1 in any case, demands 2 and 3 of the three numbers that it answers
   pub record Seen (answer : Answer) : Type 0 where
     pub demand_1 : Seen1 answer
-    pub demand_2 : (counts : Counts) → answer ≡ Planned counts → Seen2 counts
-    pub demand_3 : (counts : Counts) → answer ≡ Planned counts → Seen3 counts
+    pub demand_2 : (counts : Counts) → answer ≡ Ok counts → Seen2 counts
+    pub demand_3 : (counts : Counts) → answer ≡ Ok counts → Seen3 counts
 
 -- what is the same in another call, for file s' in place of s: the answer, the fibre records, and each circuit's assignment record
 pub record SameSheet (s s' : List ℕ) (after after' : Areas) (counts : Counts) (answer' : Answer) : Type 0 where
-  pub same_answer : answer' ≡ Planned counts
+  pub same_answer : answer' ≡ Ok counts
   pub same_fibres : take (8 * counts.fibres) after'.fibres ≡ take (8 * counts.fibres) after.fibres
   pub same_assignment : (i j : ℕ) → i < length s / 8 → j < length s' / 8 → number_in s i ≡ number_in s' j → record_at after'.assigns j ≡ record_at after.assigns i
 

@@ -1,7 +1,7 @@
 -- Request R-9 about what a caller sees: one side of an idle link planned alone. `proofs/Sides.antt` shows `side_sheet`, that of `SideCalls`, if the call with the
 -- whole file is planned, the call with the side's file gives the `SideSheet`. What a reader must believe.
 -- Assumes nothing.
-use Rattle.std.specs.Prelude.{ℕ, ◌-◌, ◌/◌, ◌%◌, ◌≤◌, ◌<◌, ◌≡◌, ◌⊎◌, List, length}
+use Rattle.std.specs.Prelude.{ℕ, ◌-◌, ◌/◌, ◌%◌, ◌≤◌, ◌<◌, ◌≡◌, ◌⊎◌, List, length, Ok}
 use Rattle.records.specs.Records.{record_at, circuits_of, number_in, fibre_of, assignment_of}
 use Rattle.records.specs.declared.Line.{Line}
 use Rattle.records.specs.declared.FibreRecord.{FibreRecord}
@@ -13,9 +13,7 @@ use Rattle.refusals.specs.Given.{NoneApplies}
 use Rattle.refusals.specs.Table.{Row, circuit_rows, area_rows}
 use Rattle.register.specs.Areas.{Areas}
 use Rattle.register.specs.declared.Counts.{Counts}
-use Rattle.planner.specs.Outcome.{Outcome}
-use Rattle.planner.specs.declared.Answer.{Answer}
-use Rattle.planner.specs.declared.Answer.TheVariants.{Planned}
+use Rattle.planner.specs.Outcome.{Answer, Outcome}
 
 -- two calls of `plan` on one line: one with the whole file s, one with s', the records of one side of link z, in any order
 pub record SideCalls (line : Line) (z : ℕ) (s s' : List ℕ) (before after before' after' : Areas) (answer answer' : Answer) : Type 0 where
@@ -51,11 +49,11 @@ pub record SideSheet (line : Line) (s s' : List ℕ) (before after before' after
   -- none of tests 1 to 7 and 12 applies to the side's file
   pub circuits_pass : NoneApplies (circuit_rows line s')
   -- so it is planned exactly if none of 8 to 10 applies to its own lent areas
-  pub planned : NoneApplies (area_table_for line s' before') → (counts' : Counts) × (answer' ≡ Planned counts')
-  pub planned_only : (counts' : Counts) → answer' ≡ Planned counts' → NoneApplies (area_table_for line s' before')
+  pub planned : NoneApplies (area_table_for line s' before') → (counts' : Counts) × (answer' ≡ Ok counts')
+  pub planned_only : (counts' : Counts) → answer' ≡ Ok counts' → NoneApplies (area_table_for line s' before')
   -- as none does if they are no shorter than those of the whole
   pub long_enough : length before.fibres ≤ length before'.fibres → length before.assigns ≤ length before'.assigns → length before.work ≤ length before'.work
       → NoneApplies (area_table_for line s' before')
   -- and then each circuit has the wavelength and fibre span of the full plan; layers and fibre numbers may differ
-  pub as_full : (counts' : Counts) → answer' ≡ Planned counts' → (i j : ℕ) → i < length s / 8 → j < length s' / 8 → number_in s i ≡ number_in s' j
+  pub as_full : (counts' : Counts) → answer' ≡ Ok counts' → (i j : ℕ) → i < length s / 8 → j < length s' / 8 → number_in s i ≡ number_in s' j
       → SameInRecords after i after' j

@@ -4,7 +4,6 @@ use mathlib.Core.Path.{◌≡◌, refl, ap, ap₂, sym, ◌∙◌}
 use mathlib.Core.Bool.{Bool, true, not}
 use mathlib.Core.List.{List, [], ◌∷◌, ◌++◌}
 use mathlib.Core.Logic.{◌⊎◌, inl, inr, ⊎_elim}
-use mathlib.Core.Option.{some}
 use native.Mathlib.Omega.{arith}
 use lib.Dec.{eqb}
 use lib.ListN.{length, length-append, length-replicate, replicate, take}
@@ -13,17 +12,15 @@ use borrow.Author.Tests.{lt-ltb}
 use Rattle.basics.proofs.Bools.{by_le, on, or_l, or_r}
 use Rattle.records.specs.LineFiles.{line_in}
 use Rattle.records.specs.declared.Line.{Line}
-use Rattle.records.specs.declared.LineFile.{LineFile}
-use Rattle.records.specs.declared.LineFile.TheVariants.{Says, Unclear}
+use Rattle.std.specs.Prelude.{Option, Some, None, Result, Ok, Err}
 use Rattle.refusals.specs.Table.{Row, verdict, whenever}
-use Rattle.refusals.specs.declared.Verdict.{Verdict}
-use Rattle.refusals.specs.declared.Verdict.TheVariants.{Checked, Refused as Stopped}
+use Rattle.refusals.specs.declared.Refusal.{Refusal}
+use Rattle.refusals.specs.declared.Reason.TheVariants.{UnfitPlan}
 use Rattle.refusals.proofs.Chain.{piece_gives}
 use Rattle.refusals.proofs.First.{verdict_passed, verdict_row}
 use Rattle.register.specs.Areas.{Areas, areas, zeroed_to}
 use Rattle.register.specs.declared.Counts.{Counts}
 use Rattle.planner.specs.Outcome.{answer_by, if_accepted}
-use Rattle.planner.specs.declared.Answer.TheVariants.{Planned}
 use Rattle.checker.specs.Checked.{checked}
 use Rattle.checker.specs.Seen.{written_assignments, written_fibres}
 use Rattle.checker.specs.declared.Finding.TheVariants.{Yes}
@@ -43,7 +40,7 @@ use Rattle.prints.proofs.Printing.{line_cut}
 use Rattle.prints.proofs.AddingLaws.{assigns_written, eight, fibres_written, the_numbers}
 
 -- A CALL THAT WAS PLANNED, on the files of a plan and new circuit bytes that pass the tests
-module _ (line : Line) (old : Files) (new : List ℕ) (m : ℕ) (q : folder_verdict line old new ≡ Checked m) where
+module _ (line : Line) (old : Files) (new : List ℕ) (m : ℕ) (q : folder_verdict line old new ≡ Ok m) where
   -- how many bytes the lists have, and areas that begin with them
   abbrev f : ℕ
   f = length old.fibres
@@ -71,7 +68,7 @@ module _ (line : Line) (old : Files) (new : List ℕ) (m : ℕ) (q : folder_verd
   same : again ≡ old
   same = λ i. record { circuits = old.circuits; fibres = take_at old.fibres (replicate 32776 0) f refl i; assigns = take_at old.assigns (replicate 16384 0) a refl i }
 
-  passes : folder_verdict line again new ≡ Checked m
+  passes : folder_verdict line again new ≡ Ok m
   passes = ap (λ (x : Files). folder_verdict line x new) same ∙ q
 
   -- what the call leaves
@@ -85,48 +82,48 @@ module _ (line : Line) (old : Files) (new : List ℕ) (m : ℕ) (q : folder_verd
       (Adder.grown_assignments line old.circuits new (records_read f a) before)
       (zeroed_to (4 * line.links + 4 * (length old.circuits / 8 + length new / 8)) before.work)
 
-  outcome : Outcome line old.circuits new (records_read f a) before after (Planned counts)
+  outcome : Outcome line old.circuits new (records_read f a) before after (Ok counts)
   outcome =
       let e = sym (judged_so line old.circuits new f a before growable work ∙ passes) in
       record {
-        answered = ap (λ (t : Verdict). answer_by t counts) e;
-        listed = ap (λ (t : Verdict). if_accepted t after.fibres before.fibres) e;
-        assigned = ap (λ (t : Verdict). if_accepted t after.assigns before.assigns) e;
-        cleared = ap (λ (t : Verdict). if_accepted t after.work before.work) e;
+        answered = ap (λ (t : Result ℕ Refusal). answer_by t counts) e;
+        listed = ap (λ (t : Result ℕ Refusal). if_accepted t after.fibres before.fibres) e;
+        assigned = ap (λ (t : Result ℕ Refusal). if_accepted t after.assigns before.assigns) e;
+        cleared = ap (λ (t : Result ℕ Refusal). if_accepted t after.work before.work) e;
       }
 
   -- its records are those of the grown files
   fibres_kept : written_fibres counts after ≡ (grown_files line old new).fibres
   fibres_kept =
-      let w = fibres_written line old.circuits new f a before growable work after (Planned counts) outcome m passes in
+      let w = fibres_written line old.circuits new f a before growable work after (Ok counts) outcome m passes in
       ap (take (8 * counts.fibres)) w.1 ∙ take_at (grown_files line again new).fibres _ (8 * counts.fibres) (sym w.0) ∙ ap (λ (x : Files). (grown_files line x new).fibres) same
 
   assigns_kept : written_assignments (old.circuits ++ new) after ≡ (grown_files line old new).assigns
   assigns_kept =
-      let w = assigns_written line old.circuits new f a before growable work after (Planned counts) outcome m passes in
+      let w = assigns_written line old.circuits new f a before growable work after (Ok counts) outcome m passes in
       let all : ℕ = 8 * (length old.circuits / 8 + length new / 8) in
-      ap (λ (k : ℕ). take k after.assigns) (sym (eight line old.circuits new f a before growable work after (Planned counts) outcome m passes).0)
+      ap (λ (k : ℕ). take k after.assigns) (sym (eight line old.circuits new f a before growable work after (Ok counts) outcome m passes).0)
       ∙ ap (take all) w.1 ∙ take_at (grown_files line again new).assigns _ all (sym w.0) ∙ ap (λ (x : Files). (grown_files line x new).assigns) same
 
   -- and its numbers theirs
   counted : counts ≡ grown_numbers line old new
-  counted = the_numbers line old.circuits new f a before growable work after (Planned counts) outcome m passes ∙ ap (λ (x : Files). grown_numbers line x new) same
+  counted = the_numbers line old.circuits new f a before growable work after (Ok counts) outcome m passes ∙ ap (λ (x : Files). grown_numbers line x new) same
 
   -- so they get a yes
-  files_yes : checked line (old.circuits ++ new) (grown_files line old new).fibres (grown_files line old new).assigns ≡ Yes (grown_numbers line old new).total (grown_numbers line old new).floor
+  files_yes : checked line (old.circuits ++ new) (grown_files line old new).fibres (grown_files line old new).assigns ≡ Ok (Yes (grown_numbers line old new).total (grown_numbers line old new).floor)
   files_yes =
       sym (ap₂ (checked line (old.circuits ++ new)) fibres_kept assigns_kept)
       ∙ added_yes line old.circuits new (records_read f a) before after counts outcome
-      ∙ (λ i. Yes (counted i).total (counted i).floor)
+      ∙ (λ i. Ok (Yes (counted i).total (counted i).floor))
 
   -- and all circuits count
   circuits_short : take 16392 (old.circuits ++ new) ≡ old.circuits ++ new
   circuits_short =
-      let e = eight line old.circuits new f a before growable work after (Planned counts) outcome m passes in
+      let e = eight line old.circuits new f a before growable work after (Ok counts) outcome m passes in
       take_all 16392 (old.circuits ++ new) (omega (arith, e.0, e.2))
 
 -- THE FILES THAT `adds` KEEPS GET A YES from `checks`, with the length and the floor that were printed
-pub grown_checked : (given : Folder) (x : Files) → grown (some given) ≡ some x → GrownYes given x
+pub grown_checked : (given : Folder) (x : Files) → grown (Some given) ≡ Some x → GrownYes given x
 unfolding grown add_printed grown_of grown_text check_printed check_of
 grown_checked given x h = go (line_in given.line) refl h
   where
@@ -136,9 +133,9 @@ grown_checked given x h = go (line_in given.line) refl h
     new : List ℕ
     new = new_in given
 
-    by_verdict : (line : Line) (t : Verdict) → line_in given.line ≡ Says line → folder_verdict line old new ≡ t → files_by t (grown_files line old new) ≡ some x → GrownYes given x
-    by_verdict line (Stopped number place end) e q k = absurd (let z : ◌≡◌ {A = ℕ} 0 1 = cc in omega arith)
-    by_verdict line (Checked m) e q k =
+    by_verdict : (line : Line) (t : Result ℕ Refusal) → line_in given.line ≡ Some line → folder_verdict line old new ≡ t → files_by t (grown_files line old new) ≡ Some x → GrownYes given x
+    by_verdict line (Err r) e q k = absurd (let z : ◌≡◌ {A = ℕ} 0 1 = cc in omega arith)
+    by_verdict line (Ok m) e q k =
         let files = grown_files line old new in
         let numbers = grown_numbers line old new in
         let same : files ≡ x = cc in
@@ -147,18 +144,18 @@ grown_checked given x h = go (line_in given.line) refl h
           is_line = e;
           numbers = numbers;
           printed =
-              ap (λ (t : LineFile). grown_text_by t given) e ∙ ap (λ (t : Verdict). text_by t (files_text line.grid files numbers)) q
+              ap (λ (t : Option Line). grown_text_by t given) e ∙ ap (λ (t : Result ℕ Refusal). text_by t (files_text line.grid files numbers)) q
               ∙ ap (λ (y : Files). files_text line.grid y numbers) same;
           yes =
-              sym (ap (λ (y : Files). check_printed (some given.line) (some y.circuits) (some y.fibres) (some y.assigns)) same)
-              ∙ ap (λ (t : LineFile). check_printed_by t files.circuits files.fibres files.assigns) e
+              sym (ap (λ (y : Files). check_printed (Some given.line) (Some y.circuits) (Some y.fibres) (Some y.assigns)) same)
+              ∙ ap (λ (t : Option Line). check_printed_by t files.circuits files.fibres files.assigns) e
               ∙ ap (λ (s : List ℕ). finding_text (checked line s files.fibres files.assigns)) (circuits_short line old new m q)
               ∙ ap finding_text (files_yes line old new m q);
         }
 
-    go : (t : LineFile) → line_in given.line ≡ t → grown_by t given ≡ some x → GrownYes given x
-    go Unclear e k = absurd (let z : ◌≡◌ {A = ℕ} 0 1 = cc in omega arith)
-    go (Says line) e k = by_verdict line (folder_verdict line old new) e refl k
+    go : (t : Option Line) → line_in given.line ≡ t → grown_by t given ≡ Some x → GrownYes given x
+    go None e k = absurd (let z : ◌≡◌ {A = ℕ} 0 1 = cc in omega arith)
+    go (Some line) e k = by_verdict line (folder_verdict line old new) e refl k
 
 -- THE READ CAPS LOSE NOTHING. The first 2,049 records of each list
 abbrev cut : Files → Files
@@ -178,7 +175,7 @@ many_assigns line old few h =
     (λ e. or_r (not (eqb (length old.fibres % 8) 0)) _ (or_r (not (eqb (length old.assigns % 8) 0)) _ e))
     (λ e.
     let lent : Areas = areas old.fibres old.assigns [] in
-    let fit = passes_fit line old.circuits (named_in old) lent (ap (whenever 13) e) in
+    let fit = passes_fit line old.circuits (named_in old) lent (ap (whenever UnfitPlan) e) in
     absurd (omega (arith, one_each line old.circuits (named_in old) lent fit, few, h)))
 
 -- the files are as they are read, or neither are a plan
@@ -194,67 +191,70 @@ read_or_none line old few =
 module _ (line : Line) (old : Files) (new : List ℕ) where
   -- the last two rows, by whether there is a plan
   abbrev last : Bool → List Row
-  last b = whenever 13 b ∷ row14 old.circuits (length old.circuits / 8) new (length new / 8) ∷ []
+  last b = whenever UnfitPlan b ∷ row14 old.circuits (length old.circuits / 8) new (length new / 8) ∷ []
 
   abbrev all : ℕ
   all = length old.circuits / 8 + length new / 8
 
   -- what is made of a verdict and of grown files
-  module _ {A : Type 0} (make : Verdict → Files → A) (refused : (number place end : ℕ) (x y : Files) → make (Stopped number place end) x ≡ make (Stopped number place end) y) where
-    by_rows : (t : Verdict) → verdict (both_rows line old.circuits new) all ≡ t → make (folder_verdict line (cut old) new) (cut old) ≡ make (folder_verdict line old new) old
+  module _ {A : Type 0} (make : Result ℕ Refusal → Files → A) (refused : (r : Refusal) (x y : Files) → make (Err r) x ≡ make (Err r) y) where
+    by_rows : (t : Result ℕ Refusal) → verdict (both_rows line old.circuits new) all ≡ t → make (folder_verdict line (cut old) new) (cut old) ≡ make (folder_verdict line old new) old
     unfolding folder_verdict folder_rows
-    by_rows (Stopped number place end) q =
+    by_rows (Err r) q =
         let rows = both_rows line old.circuits new in
-        let one = piece_gives rows (last (no_plan line (cut old))) all all number place end (Stopped number place end) (sym q) refl in
-        let two = piece_gives rows (last (no_plan line old)) all all number place end (Stopped number place end) (sym q) refl in
-        sym (ap (λ (t : Verdict). make t (cut old)) one) ∙ refused number place end (cut old) old ∙ ap (λ (t : Verdict). make t old) two
-    by_rows (Checked m) q =
+        let one = piece_gives rows (last (no_plan line (cut old))) all all r q in
+        let two = piece_gives rows (last (no_plan line old)) all all r q in
+        ap (λ (t : Result ℕ Refusal). make t (cut old)) one ∙ refused r (cut old) old ∙ sym (ap (λ (t : Result ℕ Refusal). make t old) two)
+    by_rows (Ok m) q =
         let rows = both_rows line old.circuits new in
         let passed = (verdict_passed rows all m q).1 in
         ⊎_elim
         (λ e. ap (λ (x : Files). make (verdict (rows ++ last (no_plan line x)) all) x) e)
         (λ e.
-        let stopped : verdict (rows ++ last true) all ≡ Stopped 13 0 0 = verdict_without rows (last true) all passed ∙ thirteen in
+        let stopped : verdict (rows ++ last true) all ≡ Err no_fit = verdict_without rows (last true) all passed ∙ thirteen in
         ap (λ (b : Bool). make (verdict (rows ++ last b) all) (cut old)) e.0
-        ∙ ap (λ (t : Verdict). make t (cut old)) stopped ∙ refused 13 0 0 (cut old) old ∙ sym (ap (λ (t : Verdict). make t old) stopped)
+        ∙ ap (λ (t : Result ℕ Refusal). make t (cut old)) stopped ∙ refused no_fit (cut old) old ∙ sym (ap (λ (t : Result ℕ Refusal). make t old) stopped)
         ∙ sym (ap (λ (b : Bool). make (verdict (rows ++ last b) all) old) e.1))
         (read_or_none line old (omega (arith, (both_few line old.circuits new passed).0)))
       where
-        thirteen : verdict (last true) all ≡ Stopped 13 0 0
-        thirteen = verdict_row (whenever 13 true) _ all _ refl
+        no_fit : Refusal
+        no_fit = record { reason = UnfitPlan; place = 0; end = None }
+
+        thirteen : verdict (last true) all ≡ Err no_fit
+        thirteen = verdict_row (whenever UnfitPlan true) _ all _ refl
 
     made_same : make (folder_verdict line (cut old) new) (cut old) ≡ make (folder_verdict line old new) old
     made_same = by_rows (verdict (both_rows line old.circuits new) all) refl
 
   kept_same : grown_of line (cut old) new ≡ grown_of line old new
   unfolding grown_of
-  kept_same = made_same (λ t x. files_by t (grown_files line x new)) (λ number place end x y. refl)
+  kept_same = made_same (λ t x. files_by t (grown_files line x new)) (λ r x y. refl)
 
   text_same : grown_text line (cut old) new ≡ grown_text line old new
   unfolding grown_text
-  text_same = made_same (λ t x. text_by t (files_text line.grid (grown_files line x new) (grown_numbers line x new))) (λ number place end x y. refl)
+  text_same = made_same (λ t x. text_by t (files_text line.grid (grown_files line x new) (grown_numbers line x new))) (λ r x y. refl)
 
 -- what the program reads of a folder
 abbrev pub first_bytes : Folder → Folder
 first_bytes given = record { line = take 7 given.line; circuits = take 16392 given.circuits; new = take 16392 given.new; fibres = take 16392 given.fibres; assigns = take 16392 given.assigns }
 
 -- THE PROGRAM READS NO MORE, and keeps and prints what the whole files call for
-pub grown_first_bytes : (given : Folder) → grown (some (first_bytes given)) ≡ grown (some given)
+pub grown_first_bytes : (given : Folder) → grown (Some (first_bytes given)) ≡ grown (Some given)
 unfolding grown
-grown_first_bytes given = ap (λ (t : LineFile). grown_by t (first_bytes given)) (line_cut given.line) ∙ again (line_in given.line)
+grown_first_bytes given = ap (λ (t : Option Line). grown_by t (first_bytes given)) (line_cut given.line) ∙ again (line_in given.line)
   where
-    again : (t : LineFile) → grown_by t (first_bytes given) ≡ grown_by t given
-    again Unclear = refl
-    again (Says line) =
+    again : (t : Option Line) → grown_by t (first_bytes given) ≡ grown_by t given
+    again None = refl
+    again (Some line) =
         (λ i. grown_of line (record { circuits = take-take 16392 16392 given.circuits (omega arith) i; fibres = take 16392 given.fibres; assigns = take 16392 given.assigns }) (take-take 16392 16392 given.new (omega arith) i))
         ∙ kept_same line (old_in given) (new_in given)
 
-pub add_first_bytes : (given : Folder) → add_printed (some (first_bytes given)) ≡ add_printed (some given)
+pub add_first_bytes : (given : Folder) → add_printed (Some (first_bytes given)) ≡ add_printed (Some given)
 unfolding add_printed
-add_first_bytes given = ap (λ (t : LineFile). grown_text_by t (first_bytes given)) (line_cut given.line) ∙ again (line_in given.line)
+add_first_bytes given = ap (λ (t : Option Line). grown_text_by t (first_bytes given)) (line_cut given.line) ∙ again (line_in given.line)
   where
-    again : (t : LineFile) → grown_text_by t (first_bytes given) ≡ grown_text_by t given
-    again Unclear = refl
-    again (Says line) =
+    again : (t : Option Line) → grown_text_by t (first_bytes given) ≡ grown_text_by t given
+    again None = refl
+    again (Some line) =
         (λ i. grown_text line (record { circuits = take-take 16392 16392 given.circuits (omega arith) i; fibres = take 16392 given.fibres; assigns = take 16392 given.assigns }) (take-take 16392 16392 given.new (omega arith) i))
         ∙ text_same line (old_in given) (new_in given)

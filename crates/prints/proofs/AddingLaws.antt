@@ -3,7 +3,7 @@ use Prim.Native.Nat.{ℕ, ◌+◌, ◌*◌, ◌/◌, ◌%◌, ◌≤◌}
 use mathlib.Core.Path.{◌≡◌, refl, ap, ap₂, subst, sym, ◌∙◌}
 use mathlib.Core.Bool.{◌&&◌}
 use mathlib.Core.List.{List, ◌++◌, append_assoc}
-use mathlib.Core.Option.{none, some}
+use Rattle.std.specs.Prelude.{Option, Some, None, Result, Ok, Err}
 use native.Mathlib.Omega.{arith}
 use lib.Dec.{eqb}
 use lib.ListN.{length, length-append, drop, take, take-append-drop}
@@ -16,8 +16,7 @@ use Rattle.records.specs.declared.Line.{Line}
 use Rattle.records.proofs.Files.{length_circuits_in}
 use Rattle.method.specs.Line.{Plan}
 use Rattle.refusals.specs.Given.{NoneApplies}
-use Rattle.refusals.specs.declared.Verdict.{Verdict}
-use Rattle.refusals.specs.declared.Verdict.TheVariants.{Checked, Refused as Stopped}
+use Rattle.refusals.specs.declared.Refusal.{Refusal}
 use Rattle.refusals.proofs.First.{verdict_passed}
 use Rattle.refusals.proofs.Pieces.{none_left}
 use Rattle.register.specs.Areas.{Areas}
@@ -26,9 +25,7 @@ use Rattle.register.specs.Plans as Plans
 use Rattle.register.specs.declared.Counts.{Counts}
 use Rattle.register.proofs.Reading.{length_assignment_records}
 use Rattle.additions.specs.Adding.{add, add_counts}
-use Rattle.planner.specs.Outcome.{answer_by, if_accepted}
-use Rattle.planner.specs.declared.Answer.{Answer}
-use Rattle.planner.specs.declared.Answer.TheVariants.{Planned, Refused}
+use Rattle.planner.specs.Outcome.{Answer, answer_by, if_accepted}
 use Rattle.adder.specs.Additions.{Files, plan_of_files}
 use Rattle.adder.specs.Outcome.{Outcome}
 use Rattle.adder.specs.Outcome as Adder
@@ -44,16 +41,15 @@ use Rattle.text.specs.Wrote.{Wrote}
 use Rattle.text.proofs.Writing.{by_name}
 use Rattle.prints.specs.Adding.{both_rows, files_by, files_text, folder_rows, folder_verdict, grown_files, grown_numbers, grown_of, grown_plan, grown_text}
 use Rattle.prints.specs.Sheets.{text_by}
-use Rattle.prints.specs.declared.adding.Grown.{Grown}
-use Rattle.prints.specs.declared.adding.Grown.TheVariants.{Three, Neither}
-use Rattle.prints.specs.inner.Lent.{answer_text, Growable, Held, Laid, old_read, records_read}
+use Rattle.prints.specs.declared.adding.Lengths.{Lengths}
+use Rattle.prints.specs.inner.Lent.{answer_text, Growable, Held, ListsLaid, old_read, records_read}
 use Rattle.prints.proofs.AddingTests.{assign_bytes, both_few, fibre_bytes_lem, judged_so}
 use Rattle.prints.proofs.Holding.{sheet_cut}
 
--- how many bytes are told for an answer with m circuits and a text of k bytes
-abbrev pub told : Answer → ℕ → ℕ → Grown
-told (Planned counts) m k = Three (8 * m) (8 * counts.fibres) (8 * m) k
-told (Refused number place end) m k = Neither k
+-- how many bytes of files are told for an answer with m circuits
+abbrev pub told : Answer → ℕ → Option Lengths
+told (Ok counts) m = Some (record { circuits = 8 * m; fibres = 8 * counts.fibres; assigns = 8 * m })
+told (Err r) m = None
 
 -- records behind the first b bytes of a list, and the rest as it was
 behind_wrote : (b n : ℕ) (xs written after : List ℕ) → b ≤ length xs → n ≡ b + length written → after ≡ take b xs ++ (written ++ drop (b + length written) xs)
@@ -79,16 +75,16 @@ module _ (line : Line) (s new : List ℕ) (f a : ℕ) (before : Areas) (g : Grow
 
   -- the answer is by the verdict on the folder
   by_folder : answer ≡ answer_by (folder_verdict line old new) (Adder.grown_numbers line s new (records_read f a) before)
-  by_folder = o.answered ∙ ap (λ (v : Verdict). answer_by v (Adder.grown_numbers line s new (records_read f a) before)) (judged_so line s new f a before g work)
+  by_folder = o.answered ∙ ap (λ (v : Result ℕ Refusal). answer_by v (Adder.grown_numbers line s new (records_read f a) before)) (judged_so line s new f a before g work)
 
   -- WHERE ITS TESTS PASS
-  module _ (m : ℕ) (q : folder_verdict line old new ≡ Checked m) where
+  module _ (m : ℕ) (q : folder_verdict line old new ≡ Ok m) where
     -- it is planned, with these numbers
     abbrev pub counts : Counts
     counts = Adder.grown_numbers line s new (records_read f a) before
 
-    is_planned : answer ≡ Planned counts
-    is_planned = by_folder ∙ ap (λ (v : Verdict). answer_by v counts) q
+    is_planned : answer ≡ Ok counts
+    is_planned = by_folder ∙ ap (λ (v : Result ℕ Refusal). answer_by v counts) q
 
     -- both lists are whole records, for the plan is fit
     are_whole : (f % 8 ≡ 0) × (a % 8 ≡ 0) × (records_read f a ≡ whole)
@@ -202,47 +198,48 @@ module _ (line : Line) (s new : List ℕ) (f a : ℕ) (before : Areas) (g : Grow
         ∙ (λ i. sheet_text line.grid (x i) (y i) files.fibres files.assigns (the_numbers i).total (the_numbers i).floor)
 
     -- the lists hold what is counted, and the text has room
-    all_held : (room : ℕ) → 213072 ≤ room → Held (Planned counts) all after.fibres after.assigns room
+    all_held : (room : ℕ) → 213072 ≤ room → Held (Ok counts) all after.fibres after.assigns room
     all_held room h =
         let few : counts.fibres ≤ 4096 = omega (arith, two.few_fibres, two.passes.fit.few, eight.2) in
         (long.0, long.1, few, eight.2, omega (arith, few, eight.2))
 
   -- BY THE VERDICT: the lists hold what the answer counts
-  held_by : (room : ℕ) → 213072 ≤ room → (t : Verdict) → folder_verdict line old new ≡ t → Held answer all after.fibres after.assigns room
-  held_by room h (Checked m) q = subst (λ (x : Answer). Held x all after.fibres after.assigns room) (sym (is_planned m q)) (all_held m q room h)
-  held_by room h (Stopped number place end) q =
+  held_by : (room : ℕ) → 213072 ≤ room → (t : Result ℕ Refusal) → folder_verdict line old new ≡ t → Held answer all after.fibres after.assigns room
+  held_by room h (Ok m) q = subst (λ (x : Answer). Held x all after.fibres after.assigns room) (sym (is_planned m q)) (all_held m q room h)
+  held_by room h (Err r) q =
       subst (λ (x : Answer). Held x all after.fibres after.assigns room)
-      (sym (by_folder ∙ ap (λ (v : Verdict). answer_by v (Adder.grown_numbers line s new (records_read f a) before)) q)) (omega (arith, h))
+      (sym (by_folder ∙ ap (λ (v : Result ℕ Refusal). answer_by v (Adder.grown_numbers line s new (records_read f a) before)) q)) (omega (arith, h))
 
   pub grown_held : (room : ℕ) → 213072 ≤ room → Held answer all after.fibres after.assigns room
   grown_held room h = held_by room h (folder_verdict line old new) refl
 
-  -- and the lists and the text are those of the folder
-  laid_by : (t : Verdict) → folder_verdict line old new ≡ t → (k : ℕ) (out₀ out : List ℕ) → Wrote (answer_text line.grid answer all after.fibres after.assigns) k out₀ out
-      → Laid (files_by t (grown_files line old new)) (text_by t (files_text line.grid (grown_files line old new) (grown_numbers line old new))) (told answer all k) before.fibres after.fibres before.assigns after.assigns out₀ out
-  laid_by (Checked m) q k out₀ out w =
-      let e = is_planned m q in
-      let files = grown_files line old new in
-      let text = files_text line.grid files (grown_numbers line old new) in
-      let written : Wrote text k out₀ out =
-      by_name _ text out₀ out k (ap (λ (x : Answer). answer_text line.grid x all after.fibres after.assigns) e ∙ text_made m q) w in
-      subst (λ (x : Answer). Laid (some files) text (told x all k) before.fibres after.fibres before.assigns after.assigns out₀ out) (sym e)
-      ((eight m q).0, omega (arith, (eight m q).2), fibres_written m q, assigns_written m q, written)
-  laid_by (Stopped number place end) q k out₀ out w =
+  -- the text is that of the folder
+  text_by_lem : (t : Result ℕ Refusal) → folder_verdict line old new ≡ t
+      → answer_text line.grid answer all after.fibres after.assigns ≡ text_by t (files_text line.grid (grown_files line old new) (grown_numbers line old new))
+  text_by_lem (Ok m) q = ap (λ (x : Answer). answer_text line.grid x all after.fibres after.assigns) (is_planned m q) ∙ text_made m q
+  text_by_lem (Err r) q =
+      ap (λ (x : Answer). answer_text line.grid x all after.fibres after.assigns) (by_folder ∙ ap (λ (v : Result ℕ Refusal). answer_by v (Adder.grown_numbers line s new (records_read f a) before)) q)
+
+  pub text_grown : answer_text line.grid answer all after.fibres after.assigns ≡ grown_text line old new
+  unfolding grown_text
+  text_grown = text_by_lem (folder_verdict line old new) refl
+
+  -- and so are the lists
+  laid_by : (t : Result ℕ Refusal) → folder_verdict line old new ≡ t → ListsLaid (files_by t (grown_files line old new)) (told answer all) before.fibres after.fibres before.assigns after.assigns
+  laid_by (Ok m) q =
+      subst (λ (x : Answer). ListsLaid (Some (grown_files line old new)) (told x all) before.fibres after.fibres before.assigns after.assigns) (sym (is_planned m q))
+      ((eight m q).0, omega (arith, (eight m q).2), fibres_written m q, assigns_written m q)
+  laid_by (Err r) q =
       let verdict-is = judged_so line s new f a before g work ∙ q in
-      let e : answer ≡ Refused number place end = by_folder ∙ ap (λ (v : Verdict). answer_by v (Adder.grown_numbers line s new (records_read f a) before)) q in
-      let text = text_by (Stopped number place end) (files_text line.grid (grown_files line old new) (grown_numbers line old new)) in
-      let written : Wrote text k out₀ out = by_name _ text out₀ out k (ap (λ (x : Answer). answer_text line.grid x all after.fibres after.assigns) e) w in
-      subst (λ (x : Answer). Laid none text (told x all k) before.fibres after.fibres before.assigns after.assigns out₀ out) (sym e) (
-        o.listed ∙ ap (λ (v : Verdict). if_accepted v (Adder.grown_fibres line s new (records_read f a) before) before.fibres) verdict-is,
-        o.assigned ∙ ap (λ (v : Verdict). if_accepted v (Adder.grown_assignments line s new (records_read f a) before) before.assigns) verdict-is,
-        written,
+      let e : answer ≡ Err r = by_folder ∙ ap (λ (v : Result ℕ Refusal). answer_by v (Adder.grown_numbers line s new (records_read f a) before)) q in
+      subst (λ (x : Answer). ListsLaid None (told x all) before.fibres after.fibres before.assigns after.assigns) (sym e) (
+        o.listed ∙ ap (λ (v : Result ℕ Refusal). if_accepted v (Adder.grown_fibres line s new (records_read f a) before) before.fibres) verdict-is,
+        o.assigned ∙ ap (λ (v : Result ℕ Refusal). if_accepted v (Adder.grown_assignments line s new (records_read f a) before) before.assigns) verdict-is,
       )
 
   -- what is laid of an answer that is told by its case
-  pub lists_laid : (x : Answer) (k : ℕ) (out₀ out : List ℕ) → answer ≡ x → Wrote (answer_text line.grid answer all after.fibres after.assigns) k out₀ out
-      → Laid (grown_of line old new) (grown_text line old new) (told x all k) before.fibres after.fibres before.assigns after.assigns out₀ out
-  unfolding grown_of grown_text
-  lists_laid x k out₀ out e w =
-      subst (λ (y : Answer). Laid (files_by (folder_verdict line old new) (grown_files line old new)) (text_by (folder_verdict line old new) (files_text line.grid (grown_files line old new) (grown_numbers line old new))) (told y all k) before.fibres after.fibres before.assigns after.assigns out₀ out) e
-      (laid_by (folder_verdict line old new) refl k out₀ out w)
+  pub lists_laid : (x : Answer) → answer ≡ x → ListsLaid (grown_of line old new) (told x all) before.fibres after.fibres before.assigns after.assigns
+  unfolding grown_of
+  lists_laid x e =
+      subst (λ (y : Answer). ListsLaid (files_by (folder_verdict line old new) (grown_files line old new)) (told y all) before.fibres after.fibres before.assigns after.assigns) e
+      (laid_by (folder_verdict line old new) refl)

@@ -3,17 +3,16 @@ use Prim.Native.Nat.{ℕ, ◌+◌, ◌*◌, ◌/◌, ◌%◌, ◌≤◌}
 use mathlib.Core.Path.{◌≡◌, refl, ap, ap₂, sym, ◌∙◌}
 use mathlib.Core.Bool.{Bool, true, false, ◌&&◌, ◌||◌}
 use mathlib.Core.List.{List, [], ◌∷◌, ◌++◌, append_assoc}
-use mathlib.Core.Logic.{◌≢◌}
 use mathlib.Core.Option.{none, some}
 use native.Mathlib.Omega.{arith}
 use lib.Dec.{eqb, ltb}
 use lib.ListN.{length, take}
 use lib.Seq.{length-take-le}
-use borrow.Author.Tests.{eq-eqb, ne_eqb}
-use Rattle.basics.proofs.Bools.{and_false, on}
+use Rattle.basics.proofs.Bools.{on}
 use Rattle.basics.proofs.Tables.{each_same}
 use Rattle.records.specs.Records.{assignment_of, circuits_of, fibre_of, record_at}
 use Rattle.records.specs.declared.Line.{Line}
+use Rattle.refusals.specs.declared.Reason.TheVariants.{FibreRoom, AssignmentRoom, WorkRoom, UnfitPlan}
 use Rattle.refusals.specs.Given.{NoneApplies}
 use Rattle.refusals.specs.Table.{Row, line_rows, verdict, whenever}
 use Rattle.refusals.proofs.First.{verdict_row}
@@ -29,19 +28,6 @@ use Rattle.adder.specs.Outcome.{judged}
 use Rattle.adder.specs.Table.{add_table, old_rows, room_rows, unfit}
 use Rattle.prints.specs.Adding.{both_rows, folder_rows, folder_verdict, no_plan}
 use Rattle.prints.specs.inner.Lent.{Growable, old_read, records_read}
-
--- how many records are named, by the bytes of each list
-pub fibres_broken : (f a : ℕ) → f % 8 ≢ 0 → record { fibres = 2049; assignments = 0 } ≡ records_read f a
-unfolding records_read
-fibres_broken f a h = rw (ne_eqb (f % 8) 0 h)
-
-pub assigns_broken : (f a : ℕ) → a % 8 ≢ 0 → record { fibres = 2049; assignments = 0 } ≡ records_read f a
-unfolding records_read
-assigns_broken f a h = rw (ne_eqb (a % 8) 0 h, and_false (eqb (f % 8) 0))
-
-pub both_whole : (f a : ℕ) → f % 8 ≡ 0 → a % 8 ≡ 0 → record { fibres = f / 8; assignments = a / 8 } ≡ records_read f a
-unfolding records_read
-both_whole f a h g = rw (eq-eqb (f % 8) 0 h, eq-eqb (a % 8) 0 g)
 
 -- rows that follow others matter only where none of those applies
 verdict_after : (rs rows others : List Row) (x : ℕ) → (NoneApplies rs → verdict rows x ≡ verdict others x) → verdict (rs ++ rows) x ≡ verdict (rs ++ others) x
@@ -133,9 +119,9 @@ module _ (line : Line) (s new : List ℕ) (f a : ℕ) (before : Areas) (g : Grow
         let k = length s / 8 in
         let m = length new / 8 in
         let r = rooms m (omega (arith, few.0)) in
-        none_more _ _ (passes_room 8 (8 * ((records_read f a).fibres + m)) (length before.fibres) r.0)
-        (none_more _ _ (passes_room 9 (8 * ((records_read f a).assignments + m)) (length before.assigns) r.1)
-        (none_more _ _ (passes_room 10 (4 * line.links + 4 * (k + m)) (length before.work) (omega (arith, few.0, few.1, work))) none_end))
+        none_more _ _ (passes_room FibreRoom (8 * ((records_read f a).fibres + m)) (length before.fibres) r.0)
+        (none_more _ _ (passes_room AssignmentRoom (8 * ((records_read f a).assignments + m)) (length before.assigns) r.1)
+        (none_more _ _ (passes_room WorkRoom (4 * line.links + 4 * (k + m)) (length before.work) (omega (arith, few.0, few.1, work))) none_end))
 
     -- and the verdict is that of the folder
     pub judged_so : judged line s new (records_read f a) before ≡ folder_verdict line old new
@@ -147,9 +133,9 @@ module _ (line : Line) (s new : List ℕ) (f a : ℕ) (before : Areas) (g : Grow
         let lines = line_rows line in
         let records = two_record_rows line.links k m s new in
         let lent = room_rows line.links k m (records_read f a) (length before.fibres) (length before.assigns) (length before.work) in
-        let last : List Row = whenever 13 (unfit line s (records_read f a) before.fibres before.assigns) ∷ row14 s k new m ∷ [] in
+        let last : List Row = whenever UnfitPlan (unfit line s (records_read f a) before.fibres before.assigns) ∷ row14 s k new m ∷ [] in
         ap (λ (rows : List Row). verdict rows (k + m)) (sym (append_assoc files (lines ++ records) (lent ++ last) ∙ ap (λ (rows : List Row). files ++ rows) (append_assoc lines records (lent ++ last))))
-        ∙ verdict_after (files ++ (lines ++ records)) (lent ++ last) (whenever 13 (no_plan line old) ∷ row14 s k new m ∷ []) (k + m)
+        ∙ verdict_after (files ++ (lines ++ records)) (lent ++ last) (whenever UnfitPlan (no_plan line old) ∷ row14 s k new m ∷ []) (k + m)
         (λ p.
         verdict_without lent last (k + m) (rooms_pass p)
-        ∙ ap (λ (b : Bool). verdict (whenever 13 b ∷ row14 s k new m ∷ []) (k + m)) unfit_so)
+        ∙ ap (λ (b : Bool). verdict (whenever UnfitPlan b ∷ row14 s k new m ∷ []) (k + m)) unfit_so)

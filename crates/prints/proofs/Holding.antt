@@ -5,6 +5,7 @@ use mathlib.Core.List.{List, ◌++◌}
 use native.Mathlib.Omega.{arith}
 use lib.ListN.{length, drop}
 use lib.Seq.{take_at}
+use Rattle.std.specs.Prelude.{Result, Ok, Err}
 use Rattle.records.specs.Records.{assignment_of, circuits_of, fibre_of, record_at}
 use Rattle.records.specs.declared.Line.{Line}
 use Rattle.records.proofs.Files.{length_circuits_in}
@@ -13,8 +14,8 @@ use Rattle.method.specs.Line.{total}
 use Rattle.method.specs.LitDemands.{LitDemand, lit_fibres}
 use Rattle.refusals.specs.Given.{NoneApplies}
 use Rattle.refusals.specs.Table.{verdict, circuit_rows, area_rows, plan_table}
-use Rattle.refusals.specs.declared.Verdict.{Verdict}
-use Rattle.refusals.specs.declared.Verdict.TheVariants.{Checked, Refused as Failed}
+use Rattle.refusals.specs.declared.Refusal.{Refusal}
+use Rattle.refusals.specs.declared.Reason.TheVariants.{FibreRoom, AssignmentRoom, WorkRoom}
 use Rattle.refusals.proofs.Chain.{piece_gives}
 use Rattle.refusals.proofs.First.{verdict_passed, verdict_passes}
 use Rattle.refusals.proofs.Passed.{passes_room}
@@ -23,19 +24,13 @@ use Rattle.register.specs.Areas.{Areas}
 use Rattle.register.specs.Lists.{counts_of, fibre_list, fibre_records, assignment_list, assignment_records}
 use Rattle.register.proofs.Reading.{length_assignment_records, length_fibre_records}
 use Rattle.rows.specs.Accepted.{Accepted}
-use Rattle.planner.specs.declared.Answer.{Answer}
-use Rattle.planner.specs.declared.Answer.TheVariants.{Planned, Refused}
-use Rattle.planner.specs.Outcome.{Outcome, answer_by, if_accepted, judged, numbers_of, plan_of, table_for}
+use Rattle.planner.specs.Outcome.{Answer, Outcome, answer_by, if_accepted, judged, numbers_of, plan_of, table_for}
 use Rattle.planner.proofs.Accepting.{accepted, promised}
 use Rattle.checker.proofs.Planned.{taken_record}
 use Rattle.sheet_text.specs.Text.{circuit_line, circuit_lines, fibre_line, fibre_lines, sheet_text, total_line}
 use Rattle.text.specs.Wrote.{Wrote}
 use Rattle.prints.specs.Sheets.{plan_text, sheet_of, text_by}
 use Rattle.prints.specs.inner.Lent.{answer_text, Held, Ample}
-
--- what was written of an answer that is told by its case
-pub of_case : (grid : ℕ) (a b : Answer) (m r : ℕ) (fibres assigns out₀ out₁ : List ℕ) → a ≡ b → Wrote (answer_text grid b m fibres assigns) r out₀ out₁ → Wrote (answer_text grid a m fibres assigns) r out₀ out₁
-of_case grid a b m r fibres assigns out₀ out₁ e h = subst (λ (t : Answer). Wrote (answer_text grid t m fibres assigns) r out₀ out₁) (sym e) h
 
 -- what stands behind records does not change them
 record_front : (xs rest : List ℕ) (i : ℕ) → 8 * i + 8 ≤ length xs → record_at (xs ++ rest) i ≡ record_at xs i
@@ -64,8 +59,8 @@ sheet_cut grid k m total floor xs ys fibres₀ fibres assigns₀ assigns v w =
 
 -- more room does no harm
 wider : (a : Answer) (m : ℕ) (fibres assigns : List ℕ) (room more : ℕ) → room ≤ more → Held a m fibres assigns room → Held a m fibres assigns more
-wider (Planned counts) m fibres assigns room more h z = (z.0, z.1, z.2, z.3, omega (arith, h, z.4))
-wider (Refused number place end) m fibres assigns room more h z = omega (arith, h, z)
+wider (Ok counts) m fibres assigns room more h z = (z.0, z.1, z.2, z.3, omega (arith, h, z.4))
+wider (Err r) m fibres assigns room more h z = omega (arith, h, z)
 
 module _ (line : Line) (s : List ℕ) (before : Areas) (ample : Ample before.fibres before.assigns before.work) where
   -- the method's plan, and how many circuits
@@ -87,12 +82,12 @@ module _ (line : Line) (s : List ℕ) (before : Areas) (ample : Ample before.fib
         let a = ample.fibres_ample in
         let b = ample.assigns_ample in
         let c = ample.work_ample in
-        none_more _ _ (passes_room 8 (8 * m) (length before.fibres) (omega arith))
-        (none_more _ _ (passes_room 9 (8 * m) (length before.assigns) (omega arith))
-        (none_more _ _ (passes_room 10 (4 * line.links + 4 * m) (length before.work) (omega arith)) none_end))
+        none_more _ _ (passes_room FibreRoom (8 * m) (length before.fibres) (omega arith))
+        (none_more _ _ (passes_room AssignmentRoom (8 * m) (length before.assigns) (omega arith))
+        (none_more _ _ (passes_room WorkRoom (4 * line.links + 4 * m) (length before.work) (omega arith)) none_end))
 
     -- all tests pass
-    pub all_pass : judged line s before ≡ Checked (length s / 8)
+    pub all_pass : judged line s before ≡ Ok (length s / 8)
     unfolding judged plan_table
     all_pass = verdict_passes (table_for line s before) (length s / 8) (none_both (circuit_rows line s) _ passed (none_both _ _ areas_pass none_end))
 
@@ -106,22 +101,22 @@ module _ (line : Line) (s : List ℕ) (before : Areas) (ample : Ample before.fib
     few_fibres = omega (arith, due.few_fibres, many)
 
   -- what is said of the answer and the two lists that `plan` left, if the verdict of tests 1 to 7 and 12 was t: the lists hold what is counted, and the text of it is that of the sheet
-  abbrev Said : Verdict → Answer → List ℕ → List ℕ → Type 0
+  abbrev Said : Result ℕ Refusal → Answer → List ℕ → List ℕ → Type 0
   Said t answer fibres assigns =
       Held answer (length s / 8) fibres assigns 147536
       × (answer_text line.grid answer (length s / 8) fibres assigns ≡ text_by t (plan_text line.grid (circuits_of s) (plan_of line s) (floor line.links line.wavelengths (circuits_of s))))
 
   module _ (after : Areas) (answer : Answer) (o : Outcome line s before after answer) where
     -- where tests 1 to 7 and 12 pass, all do, and the answer has the plan's numbers
-    pub is_planned : NoneApplies (circuit_rows line s) → answer ≡ Planned (numbers_of line s)
-    is_planned passed = o.answered ∙ ap (λ (t : Verdict). answer_by t (numbers_of line s)) (all_pass passed)
+    pub is_planned : NoneApplies (circuit_rows line s) → answer ≡ Ok (numbers_of line s)
+    is_planned passed = o.answered ∙ ap (λ (t : Result ℕ Refusal). answer_by t (numbers_of line s)) (all_pass passed)
 
     -- the fibre list then starts with the plan's records
     pub fibres_written : NoneApplies (circuit_rows line s) → Wrote (fibre_records 0 (plan_of line s).fibres) (8 * length (plan_of line s).fibres) before.fibres after.fibres
     unfolding fibre_list
     fibres_written passed =
         let p = plan_of line s in
-        (sym (length_fibre_records 0 p.fibres), o.listed ∙ ap (λ (t : Verdict). if_accepted t (fibre_list 0 p.fibres before.fibres) before.fibres) (all_pass passed))
+        (sym (length_fibre_records 0 p.fibres), o.listed ∙ ap (λ (t : Result ℕ Refusal). if_accepted t (fibre_list 0 p.fibres before.fibres) before.fibres) (all_pass passed))
 
     -- and so does the assignment list
     pub assigns_written : NoneApplies (circuit_rows line s) → Wrote (assignment_records 0 (circuits_of s) (plan_of line s).assignments) (8 * (length s / 8)) before.assigns after.assigns
@@ -131,31 +126,31 @@ module _ (line : Line) (s : List ℕ) (before : Areas) (ample : Ample before.fib
         let cs = circuits_of s in
         let given = (due passed).rules.valid.all_assigned in (
           omega (arith, many, length_assignment_records 0 cs p.assignments given),
-          o.assigned ∙ ap (λ (t : Verdict). if_accepted t (assignment_list 0 cs p.assignments before.assigns) before.assigns) (all_pass passed)
+          o.assigned ∙ ap (λ (t : Result ℕ Refusal). if_accepted t (assignment_list 0 cs p.assignments before.assigns) before.assigns) (all_pass passed)
               ∙ ap (λ (k : ℕ). assignment_records 0 cs p.assignments ++ drop (8 * k) before.assigns) many,
         )
 
-    module _ (number place end : ℕ) (q : verdict (circuit_rows line s) (length s / 8) ≡ Failed number place end) where
+    module _ (r : Refusal) (q : verdict (circuit_rows line s) (length s / 8) ≡ Err r) where
       -- where one of them applies, it is the first of all
-      first_of_all : Failed number place end ≡ judged line s before
+      first_of_all : judged line s before ≡ Err r
       unfolding judged plan_table
-      first_of_all = piece_gives (circuit_rows line s) _ (length s / 8) (length s / 8) number place end (Failed number place end) (sym q) refl
+      first_of_all = piece_gives (circuit_rows line s) _ (length s / 8) (length s / 8) r q
 
       -- the answer then refuses so
-      pub is_refused : answer ≡ Refused number place end
-      is_refused = o.answered ∙ sym (ap (λ (t : Verdict). answer_by t (numbers_of line s)) first_of_all)
+      pub is_refused : answer ≡ Err r
+      is_refused = o.answered ∙ ap (λ (t : Result ℕ Refusal). answer_by t (numbers_of line s)) first_of_all
 
       -- and both lists are as they were
       pub lists_left : (after.fibres ≡ before.fibres) × (after.assigns ≡ before.assigns)
       lists_left = (
-        o.listed ∙ sym (ap (λ (t : Verdict). if_accepted t (fibre_list 0 (plan_of line s).fibres before.fibres) before.fibres) first_of_all),
-        o.assigned ∙ sym (ap (λ (t : Verdict). if_accepted t (assignment_list 0 (circuits_of s) (plan_of line s).assignments before.assigns) before.assigns) first_of_all),
+        o.listed ∙ ap (λ (t : Result ℕ Refusal). if_accepted t (fibre_list 0 (plan_of line s).fibres before.fibres) before.fibres) first_of_all,
+        o.assigned ∙ ap (λ (t : Result ℕ Refusal). if_accepted t (assignment_list 0 (circuits_of s) (plan_of line s).assignments before.assigns) before.assigns) first_of_all,
       )
 
   module _ (after : Areas) (answer : Answer) (long-fibres : length after.fibres ≡ length before.fibres) (long-assigns : length after.assigns ≡ length before.assigns)
       (o : Outcome line s before after answer) where
     -- where the tests pass, the lists hold the plan
-    planned : (m : ℕ) → verdict (circuit_rows line s) (length s / 8) ≡ Checked m → Said (Checked m) (Planned (numbers_of line s)) after.fibres after.assigns
+    planned : (m : ℕ) → verdict (circuit_rows line s) (length s / 8) ≡ Ok m → Said (Ok m) (Ok (numbers_of line s)) after.fibres after.assigns
     unfolding counts_of plan_text
     planned m q =
         let passed = (verdict_passed (circuit_rows line s) (length s / 8) m q).1 in
@@ -173,11 +168,11 @@ module _ (line : Line) (s : List ℕ) (before : Areas) (ample : Ample before.fib
         )
 
     -- by the verdict of tests 1 to 7 and 12
-    said : (t : Verdict) → verdict (circuit_rows line s) (length s / 8) ≡ t → Said t answer after.fibres after.assigns
-    said (Checked m) q =
-        subst (λ (a : Answer). Said (Checked m) a after.fibres after.assigns) (sym (is_planned after answer o (verdict_passed (circuit_rows line s) (length s / 8) m q).1)) (planned m q)
-    said (Failed number place end) q =
-        subst (λ (a : Answer). Said (Failed number place end) a after.fibres after.assigns) (sym (is_refused after answer o number place end q)) (omega arith, refl)
+    said : (t : Result ℕ Refusal) → verdict (circuit_rows line s) (length s / 8) ≡ t → Said t answer after.fibres after.assigns
+    said (Ok m) q =
+        subst (λ (a : Answer). Said (Ok m) a after.fibres after.assigns) (sym (is_planned after answer o (verdict_passed (circuit_rows line s) (length s / 8) m q).1)) (planned m q)
+    said (Err r) q =
+        subst (λ (a : Answer). Said (Err r) a after.fibres after.assigns) (sym (is_refused after answer o r q)) (omega arith, refl)
 
     -- the lists hold what the answer counts
     pub held : (room : ℕ) → 147536 ≤ room → Held answer (length s / 8) after.fibres after.assigns room

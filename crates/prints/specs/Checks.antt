@@ -2,47 +2,42 @@
 -- `proofs/CheckLaws.antt` shows `check_first_bytes`, that what the program leaves unread of long files changes nothing,
 -- and `proofs/KeepingLaws.antt` shows `kept_checked`, that the lists which `lists` keeps get a yes.
 -- Assumes nothing.
-use Rattle.std.specs.Prelude.{ℕ, ◌≡◌, List, length, take}
-use Rattle.std.proofs.Math.Option.{Option, none, some}
+use Rattle.std.specs.Prelude.{ℕ, ◌≡◌, List, take, Option, Some, None, Result, Ok, Err}
 use Rattle.records.specs.LineFiles.{line_in}
 use Rattle.records.specs.Records.{circuits_of}
 use Rattle.records.specs.declared.Line.{Line}
-use Rattle.records.specs.declared.LineFile.{LineFile}
-use Rattle.records.specs.declared.LineFile.TheVariants.{Says, Unclear}
 use Rattle.method.specs.Fibres.{floor}
 use Rattle.method.specs.Line.{total}
+use Rattle.refusals.specs.declared.Refusal.{Refusal}
 use Rattle.planner.specs.Outcome.{plan_of}
 use Rattle.checker.specs.Checked.{checked}
 use Rattle.checker.specs.declared.Finding.{Finding}
-use Rattle.checker.specs.declared.Finding.TheVariants.{Yes, No, Refused}
+use Rattle.checker.specs.declared.Finding.TheVariants.{Yes, No}
 use Rattle.sheet_text.specs.Text.{yes_line, no_line, refusal_line}
-use Rattle.files.specs.Moves.{Read}
-use Rattle.files.specs.declared.Moved.{Moved}
-use Rattle.prints.specs.Reads.{SheetRead}
 use Rattle.prints.specs.Sheets.{unread}
 
--- the one line of a finding
-abbrev pub finding_text : Finding → List ℕ
-finding_text (Yes long its_floor) = yes_line long its_floor
-finding_text (No rule place) = no_line rule place
-finding_text (Refused number place end) = refusal_line (record { number = number; place = place; end = end })
+-- the one line of a finding or of a refusal
+abbrev pub finding_text : Result Finding Refusal → List ℕ
+finding_text (Ok (Yes long its_floor)) = yes_line long its_floor
+finding_text (Ok (No rule place)) = no_line rule place
+finding_text (Err r) = refusal_line r
 
 -- the line for circuit bytes s and the two lists on a line
 unfoldable pub check_of : Line → List ℕ → List ℕ → List ℕ → List ℕ
 check_of line s fibres assigns = finding_text (checked line s fibres assigns)
 
 -- what `line.rec` says comes first, and then at most the first 16,392 bytes of `circuits.rec` count, as for the sheet
-abbrev pub check_printed_by : LineFile → List ℕ → List ℕ → List ℕ → List ℕ
-check_printed_by Unclear s fibres assigns = unread
-check_printed_by (Says line) s fibres assigns = check_of line (take 16392 s) fibres assigns
+abbrev pub check_printed_by : Option Line → List ℕ → List ℕ → List ℕ → List ℕ
+check_printed_by None s fibres assigns = unread
+check_printed_by (Some line) s fibres assigns = check_of line (take 16392 s) fibres assigns
 
 -- what is printed, from `line.rec`, `circuits.rec`, `fibres.rec` and `assign.rec`: none where the file cannot be read, else its bytes; 11 comes before all others
 unfoldable pub check_printed : Option (List ℕ) → Option (List ℕ) → Option (List ℕ) → Option (List ℕ) → List ℕ
-check_printed none circuits fibres assigns = unread
-check_printed (some line) none fibres assigns = unread
-check_printed (some line) (some circuits) none assigns = unread
-check_printed (some line) (some circuits) (some fibres) none = unread
-check_printed (some line) (some circuits) (some fibres) (some assigns) = check_printed_by (line_in line) circuits fibres assigns
+check_printed None circuits fibres assigns = unread
+check_printed (Some line) None fibres assigns = unread
+check_printed (Some line) (Some circuits) None assigns = unread
+check_printed (Some line) (Some circuits) (Some fibres) None = unread
+check_printed (Some line) (Some circuits) (Some fibres) (Some assigns) = check_printed_by (line_in line) circuits fibres assigns
 
 -- the yes line of the plan's own total and floor, for circuit bytes s on a line
 abbrev pub plan_yes : Line → List ℕ → List ℕ
@@ -51,13 +46,5 @@ plan_yes line s = yes_line (total (plan_of line s).fibres) (floor line.links lin
 -- `line.rec` is a line, and what is printed is that yes of as many bytes of `circuits.rec` as count
 pub record PrintsYes (line circuits fibres assigns : List ℕ) : Type 0 where
   pub said : Line
-  pub is_line : line_in line ≡ Says said
-  pub prints : check_printed (some line) (some circuits) (some fibres) (some assigns) ≡ plan_yes said (take 16392 circuits)
-
--- what the check program read: two files as the sheet program reads them, and a record more of each list than it may have, which tells that it is too long
-pub record CheckRead (line circuits fibres assigns : Moved) (lineBuffer circuitBuffer fibreBuffer assignBuffer : List ℕ) : Type 0 where
-  pub sheet_read : SheetRead line circuits lineBuffer circuitBuffer
-  pub fibres_read : Read fibres fibreBuffer
-  pub fibres_long : length fibreBuffer ≡ 32776
-  pub assigns_read : Read assigns assignBuffer
-  pub assigns_long : length assignBuffer ≡ 16392
+  pub is_line : line_in line ≡ Some said
+  pub prints : check_printed (Some line) (Some circuits) (Some fibres) (Some assigns) ≡ plan_yes said (take 16392 circuits)

@@ -1,18 +1,16 @@
 -- What the sheet program prints, from the two files of its folder. What a reader must believe.
 -- Assumes nothing.
-use Rattle.std.specs.Prelude.{ℕ, ◌/◌, List, length, take}
-use Rattle.std.proofs.Math.Option.{Option, none, some}
+use Rattle.std.specs.Prelude.{ℕ, ◌/◌, List, length, take, Option, Some, None, Result}
 use Rattle.records.specs.LineFiles.{line_in}
 use Rattle.records.specs.Records.{circuits_of}
 use Rattle.records.specs.declared.Circuit.{Circuit}
 use Rattle.records.specs.declared.Line.{Line}
-use Rattle.records.specs.declared.LineFile.{LineFile}
-use Rattle.records.specs.declared.LineFile.TheVariants.{Says, Unclear}
 use Rattle.method.specs.Fibres.{floor}
 use Rattle.method.specs.Line.{Plan, total}
 use Rattle.refusals.specs.Refusals.{refusal_in, if_refused}
 use Rattle.refusals.specs.Table.{verdict, circuit_rows}
-use Rattle.refusals.specs.declared.Verdict.{Verdict}
+use Rattle.refusals.specs.declared.Refusal.{Refusal}
+use Rattle.refusals.specs.declared.Reason.TheVariants.{Unread}
 use Rattle.register.specs.Lists.{fibre_records, assignment_records}
 use Rattle.planner.specs.Outcome.{plan_of}
 use Rattle.sheet_text.specs.Text.{sheet_text, refusal_line}
@@ -22,7 +20,7 @@ unfoldable pub plan_text : ℕ → List Circuit → Plan → ℕ → List ℕ
 plan_text grid cs p floor = sheet_text grid (length p.fibres) (length cs) (fibre_records 0 p.fibres) (assignment_records 0 cs p.assignments) (total p.fibres) floor
 
 -- a refusal is one line, and nothing else is printed then
-abbrev pub text_by : Verdict → List ℕ → List ℕ
+abbrev pub text_by : Result ℕ Refusal → List ℕ → List ℕ
 text_by v sheet = if_refused (refusal_in v) refusal_line sheet
 
 -- the text for circuit bytes s on a line: tests 1 to 7 and 12, and then the plan; 8, 9 and 10 never come, since the program lends enough
@@ -31,15 +29,15 @@ sheet_of line s = text_by (verdict (circuit_rows line s) (length s / 8)) (plan_t
 
 -- refusal 11, which only the program gives
 abbrev pub unread : List ℕ
-unread = refusal_line (record { number = 11; place = 0; end = 0 })
+unread = refusal_line (record { reason = Unread; place = 0; end = None })
 
 -- what `line.rec` says comes first, and then at most the first 16,392 bytes of `circuits.rec` count
-abbrev pub printed_by : LineFile → List ℕ → List ℕ
-printed_by Unclear s = unread
-printed_by (Says line) s = sheet_of line (take 16392 s)
+abbrev pub printed_by : Option Line → List ℕ → List ℕ
+printed_by None s = unread
+printed_by (Some line) s = sheet_of line (take 16392 s)
 
 -- what is printed, from `line.rec` and `circuits.rec`: none where the file cannot be read, else its bytes; 11 comes before all others
 unfoldable pub printed : Option (List ℕ) → Option (List ℕ) → List ℕ
-printed none circuits = unread
-printed (some line) none = unread
-printed (some line) (some circuits) = printed_by (line_in line) circuits
+printed None circuits = unread
+printed (Some line) None = unread
+printed (Some line) (Some circuits) = printed_by (line_in line) circuits

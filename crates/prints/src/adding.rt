@@ -1,37 +1,35 @@
 // Which files program `adds` keeps, and what it prints.
+// The lent areas go one by one: a struct that holds them by reference makes clauses say `.entry.` of each field.
 ghost use Rattle.std.specs.Prelude.{◌≡◌, ◌+◌, ◌≤◌, length, take};
+ghost use Rattle.std.specs.Option.{option_copied};
 ghost use Rattle.prints.specs.Adding.{AddRead, add_printed, all_read, grown, grown_of, grown_text, Grows};
 ghost use Rattle.prints.specs.Reads.{file_read};
 ghost use Rattle.prints.specs.inner.Lent.{Appendable, Appended, Growable, Laid, old_read, records_read};
 
 use adder::Named;
-use files::Moved;
-use planner::Answer;
-use records::{Line, LineFile};
+use records::Line;
 
-// How many bytes circuits.rec, fibres.rec, assign.rec and the text have, or how many the text has where no file is kept.
-#[derive(Clone, Copy)]
-pub enum Grown {
-    Three {
-        circuits: usize,
-        fibres: usize,
-        assigns: usize,
-        text: usize,
-    },
-    Neither(usize),
+// How many bytes circuits.rec, fibres.rec and assign.rec have.
+#[derive(Clone, Copy, Debug, PartialEq, Eq)]
+pub struct Lengths {
+    pub circuits: usize,
+    pub fibres: usize,
+    pub assigns: usize,
+}
+
+// The files, where they are kept, and how many bytes the text has.
+#[derive(Clone, Copy, Debug, PartialEq, Eq)]
+pub struct Grown {
+    pub files: Option<Lengths>,
+    pub text: usize,
 }
 
 // How many records lists of f and a bytes have; where one is not whole records, more fibres than an addition takes.
+#[tactic(auto, unfolding(crate::specs::inner::Lent::records_read))]
 fn records_read(f: usize, a: usize) -> Named
     ensures { result ≡ records_read f a }
 {
-    if f % 8 != 0 {
-        return Named {
-            fibres: 2049,
-            assignments: 0,
-        };
-    }
-    if a % 8 != 0 {
+    if f % 8 != 0 || a % 8 != 0 {
         return Named {
             fibres: 2049,
             assignments: 0,
@@ -61,37 +59,30 @@ fn grow_lists(
     let many = old.len() / 8 + new.len() / 8;
     let named = records_read(f, a);
     let answer = adder::add(line, old, new, named, fibres, assigns, work);
-    let k = crate::write_answer(line.grid, answer, many, fibres, assigns, out);
-    match answer {
-        Answer::Planned(c) => Grown::Three {
-            circuits: 8 * many,
-            fibres: 8 * c.fibres,
-            assigns: 8 * many,
-            text: k,
-        },
-        Answer::Refused { number, place, end } => Grown::Neither(k),
-    }
+    let text = crate::write_answer(line.grid, answer, many, fibres, assigns, out);
+    let Ok(counts) = answer else {
+        return Grown { files: None, text };
+    };
+    let files = Some(Lengths {
+        circuits: 8 * many,
+        fibres: 8 * counts.fibres,
+        assigns: 8 * many,
+    });
+    Grown { files, text }
 }
 
 // Where files are kept, puts the new circuits behind the first c bytes of the circuit buffer.
-fn append_new(grown: Grown, c: usize, new: &[u8], circuits: &mut [u8])
-    requires { Appendable grown c new.now circuits.old }
-    ensures { Appended grown c new.now circuits.old circuits.new }
+fn append_new(files: Option<Lengths>, c: usize, new: &[u8], circuits: &mut [u8])
+    requires { Appendable files c new.now circuits.old }
+    ensures { Appended files c new.now circuits.old circuits.new }
 {
-    match grown {
-        Grown::Three {
-            circuits: all,
-            fibres,
-            assigns,
-            text,
-        } => {
-            text::write_words(new, &mut circuits[c..]);
-        }
-        Grown::Neither(_) => {}
+    if files.is_some() {
+        text::write_words(new, &mut circuits[c..]);
     }
 }
 
 // Adds to the plan of the first c bytes of the circuit buffer, with a work area of its own.
+#[tactic(auto, using(crate::proofs::AddingReads::room_behind, crate::proofs::AddingReads::all_filed))]
 fn grow_circuits(
     line: Line,
     c: usize,
@@ -109,7 +100,7 @@ fn grow_circuits(
     let mut work = [0u8; 10240];
     let grown = grow_lists(
         line,
-        &circuits[0..c],
+        &circuits[..c],
         new,
         f,
         fibres,
@@ -118,45 +109,38 @@ fn grow_circuits(
         &mut work,
         out,
     );
-    append_new(grown, c, new, circuits);
+    append_new(grown.files, c, new, circuits);
     grown
 }
 
-// Which files are kept and what is printed, at the start of four buffers, from what reading the five files gave.
+// Which files are kept and what is printed, at the start of four buffers, from the bytes of the five files as far as they can be read. Three of them grow in the
+// buffers where they were read, so of these it is told how many bytes were.
+#[tactic(auto, unfolding(crate::specs::Adding::all_read, crate::specs::Adding::grown, crate::specs::Adding::add_printed))]
 pub fn grow_files(
-    got_line: Moved,
-    line: &[u8],
-    got_circuits: Moved,
+    line: Option<&[u8]>,
+    got_circuits: Option<usize>,
     circuits: &mut [u8],
-    got_new: Moved,
-    new: &[u8],
-    got_fibres: Moved,
+    new: Option<&[u8]>,
+    got_fibres: Option<usize>,
     fibres: &mut [u8],
-    got_assigns: Moved,
+    got_assigns: Option<usize>,
     assigns: &mut [u8],
     out: &mut [u8],
 ) -> Grown
-    requires { AddRead got_line got_circuits got_new got_fibres got_assigns line.now circuits.old new.now fibres.old assigns.old × (213072 ≤ length out.old) }
-    ensures { Grows (grown (all_read (file_read got_line line.now) (file_read got_circuits circuits.old) (file_read got_new new.now) (file_read got_fibres fibres.old) (file_read got_assigns assigns.old))) (add_printed (all_read (file_read got_line line.now) (file_read got_circuits circuits.old) (file_read got_new new.now) (file_read got_fibres fibres.old) (file_read got_assigns assigns.old))) result circuits.old circuits.new fibres.old fibres.new assigns.old assigns.new out.old out.new }
+    requires { AddRead got_circuits (option_copied new) got_fibres got_assigns circuits.old fibres.old assigns.old × (213072 ≤ length out.old) }
+    ensures { Grows (grown (all_read (option_copied line.entry) (file_read got_circuits circuits.old) (option_copied new.entry) (file_read got_fibres fibres.old) (file_read got_assigns assigns.old))) (add_printed (all_read (option_copied line.entry) (file_read got_circuits circuits.old) (option_copied new.entry) (file_read got_fibres fibres.old) (file_read got_assigns assigns.old))) result circuits.old circuits.new fibres.old fibres.new assigns.old assigns.new out.old out.new }
 {
-    let Moved::Bytes(k) = got_line else {
-        return Grown::Neither(crate::write_unread(out));
+    let (Some(line), Some(c), Some(new), Some(f), Some(a)) = (
+        line.and_then(records::line_in),
+        got_circuits,
+        new,
+        got_fibres,
+        got_assigns,
+    ) else {
+        return Grown {
+            files: None,
+            text: crate::write_unread(out),
+        };
     };
-    let Moved::Bytes(c) = got_circuits else {
-        return Grown::Neither(crate::write_unread(out));
-    };
-    let Moved::Bytes(m) = got_new else {
-        return Grown::Neither(crate::write_unread(out));
-    };
-    let Moved::Bytes(f) = got_fibres else {
-        return Grown::Neither(crate::write_unread(out));
-    };
-    let Moved::Bytes(a) = got_assigns else {
-        return Grown::Neither(crate::write_unread(out));
-    };
-    let says = records::line_in(&line[0..k]);
-    let LineFile::Says(l) = says else {
-        return Grown::Neither(crate::write_unread(out));
-    };
-    grow_circuits(l, c, circuits, &new[0..m], f, fibres, a, assigns, out)
+    grow_circuits(line, c, circuits, new, f, fibres, a, assigns, out)
 }

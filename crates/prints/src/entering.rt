@@ -1,25 +1,26 @@
 // What program `enter` makes of standard input.
 ghost use Rattle.std.specs.Prelude.{◌≡◌, ◌≤◌, length};
+ghost use Rattle.std.specs.Option.{option_copied};
 ghost use Rattle.prints.specs.Entering.{MadeRead};
-ghost use Rattle.prints.specs.Reads.{file_read, TextRead};
 
 use entry_text::Made;
-use files::Moved;
 
-// The bytes of both files and what is said of the text, from what reading standard input gave.
+// The bytes of both files and what is said of the text, from the text as far as standard input can be read.
+#[tactic(auto, unfolding(text::specs::Words::words, text::specs::Words::codes))]
 pub fn make_files(
-    got: Moved,
-    buffer: &[u8],
+    text: Option<&[u8]>,
     line: &mut [u8],
     circuits: &mut [u8],
     message: &mut [u8],
 ) -> Made
-    requires { TextRead got buffer.now × ((length line.old ≡ 6) × (length circuits.old ≡ 16384) × (76 ≤ length message.old)) }
-    ensures { MadeRead (file_read got buffer.now) result line.new circuits.new message.new }
+    requires { (length line.old ≡ 6) × (length circuits.old ≡ 16384) × (76 ≤ length message.old) }
+    ensures { MadeRead (option_copied text.entry) result line.new circuits.new message.new }
 {
-    let Moved::Bytes(k) = got else {
-        let n = text::write_words(b"standard input cannot be read\n", message);
-        return Made::Neither(n);
-    };
-    entry_text::make_files(&buffer[0..k], line, circuits, message)
+    match text {
+        Some(text) => entry_text::make_files(text, line, circuits, message),
+        None => Made {
+            files: None,
+            message: text::write_words(b"standard input cannot be read\n", message),
+        },
+    }
 }

@@ -1,15 +1,17 @@
 // What the programs print, from what they read.
+// The lent areas go one by one: a struct that holds them by reference makes clauses say `.entry.` of each field.
 #![tactic(auto)]
 
 ghost use Rattle.std.specs.Prelude.{◌≤◌, length};
+ghost use Rattle.std.specs.Option.{option_copied};
 ghost use Rattle.text.specs.Wrote.{Wrote};
-ghost use Rattle.prints.specs.Reads.{file_read, SheetRead};
+ghost use Rattle.prints.specs.Reads.{AtMost};
 ghost use Rattle.prints.specs.Sheets.{sheet_of, unread, printed};
-ghost use Rattle.prints.specs.inner.Lent.{answer_text, Held, Ample};
+ghost use Rattle.prints.specs.inner.Lent.{answer_text, Held};
 
-use files::Moved;
-use planner::Answer;
-use records::{Line, LineFile};
+use records::Line;
+use refusals::{Reason, Refusal};
+use register::Counts;
 
 pub mod adding;
 pub mod checks;
@@ -20,39 +22,19 @@ pub mod typed;
 // The text of an answer on a grid, with m circuits and the two lists as the planner left them, at the start of a buffer. What is told: its length.
 fn write_answer(
     grid: usize,
-    a: Answer,
+    answer: Result<Counts, Refusal>,
     m: usize,
     fibres: &[u8],
     assigns: &[u8],
     out: &mut [u8],
 ) -> usize
-    requires { Held a m fibres.now assigns.now (length out.old) }
-    ensures { Wrote (answer_text grid a m fibres.now assigns.now) result out.old out.new }
+    requires { Held answer m fibres.now assigns.now (length out.old) }
+    ensures { Wrote (answer_text grid answer m fibres.now assigns.now) result out.old out.new }
 {
-    match a {
-        Answer::Planned(c) => sheet_text::write_sheet(
-            grid, c.fibres, m, fibres, assigns, c.total, c.floor, out,
-        ),
-        Answer::Refused { number, place, end } => sheet_text::write_refusal(
-            number, place, end, out,
-        ),
+    match answer {
+        Ok(c) => sheet_text::write_sheet(grid, c, m, fibres, assigns, out),
+        Err(refusal) => sheet_text::write_refusal(refusal, out),
     }
-}
-
-// Plans in lent areas, and puts the text of the sheet at the start of a buffer. What is told: its length.
-fn write_plan(
-    line: Line,
-    circuits: &[u8],
-    fibres: &mut [u8],
-    assigns: &mut [u8],
-    work: &mut [u8],
-    out: &mut [u8],
-) -> usize
-    requires { Ample fibres.old assigns.old work.old × (147536 ≤ length out.old) }
-    ensures { Wrote (sheet_of line circuits.now) result out.old out.new }
-{
-    let a = planner::plan(line, circuits, fibres, assigns, work);
-    write_answer(line.grid, a, circuits.len() / 8, fibres, assigns, out)
 }
 
 // The text of the sheet of circuit bytes on a line, at the start of a buffer. What is told: its length.
@@ -62,8 +44,7 @@ pub fn write_sheet(line: Line, circuits: &[u8], out: &mut [u8]) -> usize
 {
     let mut fibres = [0u8; 16384];
     let mut assigns = [0u8; 16384];
-    let mut work = [0u8; 10240];
-    write_plan(line, circuits, &mut fibres, &mut assigns, &mut work, out)
+    keeping::keep_plan(line, circuits, &mut fibres, &mut assigns, out).text
 }
 
 // The refusal of a file that cannot be read, at the start of a buffer. What is told: its length.
@@ -71,29 +52,17 @@ fn write_unread(out: &mut [u8]) -> usize
     requires { 80 ≤ length out.old }
     ensures { Wrote unread result out.old out.new }
 {
-    sheet_text::write_refusal(11, 0, 0, out)
+    sheet_text::write_refusal(Refusal::at_large(Reason::Unread), out)
 }
 
-// What the sheet program prints, at the start of a buffer, from what reading its two files gave. What is told: its length.
-pub fn print_sheet(
-    got_line: Moved,
-    line: &[u8],
-    got_circuits: Moved,
-    circuits: &[u8],
-    out: &mut [u8],
-) -> usize
-    requires { SheetRead got_line got_circuits line.now circuits.now × (147536 ≤ length out.old) }
-    ensures { Wrote (printed (file_read got_line line.now) (file_read got_circuits circuits.now)) result out.old out.new }
+// What the sheet program prints, at the start of a buffer, from the bytes of its two files as far as they can be read. What is told: its length.
+#[tactic(auto, using(crate::proofs::Printing::line_printed), unfolding(crate::specs::Sheets::printed))]
+pub fn print_sheet(line: Option<&[u8]>, circuits: Option<&[u8]>, out: &mut [u8]) -> usize
+    requires { AtMost 16392 (option_copied circuits) × (147536 ≤ length out.old) }
+    ensures { Wrote (printed (option_copied line.entry) (option_copied circuits.entry)) result out.old out.new }
 {
-    let Moved::Bytes(k) = got_line else {
+    let (Some(line), Some(circuits)) = (line.and_then(records::line_in), circuits) else {
         return write_unread(out);
     };
-    let Moved::Bytes(j) = got_circuits else {
-        return write_unread(out);
-    };
-    let says = records::line_in(&line[0..k]);
-    let LineFile::Says(l) = says else {
-        return write_unread(out);
-    };
-    write_sheet(l, &circuits[0..j], out)
+    write_sheet(line, circuits, out)
 }

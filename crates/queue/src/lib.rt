@@ -1,5 +1,6 @@
 // The circuits that wait, by rising number, in a lent list of 4 m cells: m first links, m last links, m places in the file, and m cells that are nobody's.
 // A circuit that is taken out has first link 0, and so fits no run.
+// Cells stand in lent bytes, so loops go over their places. What is told where none waits is the end, as in `seek`, since callers go on from there.
 #![tactic(auto)]
 
 ghost use Rattle.std.specs.Prelude.{◌≡◌, ◌*◌, ◌≤◌, length, replicate};
@@ -13,7 +14,7 @@ ghost use Rattle.queue.specs.inner.ClosedUp.{ClosedUp};
 use scans::Bounds;
 
 // The part of the list where circuits wait, from place `from` to before place `to`; at most `many` do.
-#[derive(Clone, Copy)]
+#[derive(Clone, Copy, Debug, PartialEq, Eq)]
 pub struct Queue {
     pub from: usize,
     pub to: usize,
@@ -38,9 +39,7 @@ pub fn first_waiting(m: usize, list: &[u8], q: Queue, a: Bounds, b: Bounds) -> u
     requires { InList m list.now q × (a.low ≤ a.high) × (b.low ≤ b.high) }
     ensures { result ≡ first_place q (both_within a b (part 0 m (cells_of list.now)) (part m m (cells_of list.now))) }
 {
-    let e = 2 * m;
-    let f = 4 * m;
-    scans::first_within_both(&list[0..e], &list[e..f], q.from, q.to, a, b)
+    scans::first_within_both(&list[..2 * m], &list[2 * m..4 * m], q.from, q.to, a, b)
 }
 
 // The circuits that wait close up, in their order. What is told: how many they are.
@@ -49,8 +48,7 @@ fn close_up(m: usize, list: &mut [u8], to: usize) -> usize
     ensures { (length list.new ≡ 8 * m) × ClosedUp m to (cells_of list.old) (cells_of list.new) result }
 {
     let mut r = 0;
-    let mut p = 0;
-    while p < to {
+    for p in 0..to {
         let a = records::cells::get(list, p);
         if a != 0 {
             let b = records::cells::get(list, m + p);
@@ -60,7 +58,6 @@ fn close_up(m: usize, list: &mut [u8], to: usize) -> usize
             records::cells::put(list, 2 * m + r, j);
             r += 1;
         }
-        p += 1;
     }
     r
 }
@@ -72,25 +69,12 @@ pub fn shorten(m: usize, list: &mut [u8], q: Queue) -> Queue
 {
     if 2 * q.many <= q.to {
         let to = close_up(m, list, q.to);
-        return Queue {
-            from: 0,
-            to,
-            many: q.many,
-        };
+        return Queue { from: 0, to, ..q };
     }
-    let e = 2 * m;
-    let from = scans::first_within(
-        &list[0..e],
-        q.from,
-        q.to,
-        Bounds {
-            low: 1,
-            high: 65535,
-        },
-    );
-    Queue {
-        from,
-        to: q.to,
-        many: q.many,
-    }
+    let links = Bounds {
+        low: 1,
+        high: u16::MAX,
+    };
+    let from = scans::first_within(&list[..2 * m], q.from, q.to, links);
+    Queue { from, ..q }
 }

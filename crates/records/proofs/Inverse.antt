@@ -8,7 +8,7 @@ use native.Mathlib.Omega.{arith}
 use lib.ListN.{length, get_or}
 use Rattle.records.specs.Bytes.{le16, le32, bytes16, bytes32, cells_of, encode}
 use Rattle.records.specs.LineFiles.{line_bytes, line_in, line_on}
-use Rattle.records.specs.declared.LineFile.TheVariants.{Says}
+use Rattle.std.specs.Prelude.{Some}
 use Rattle.records.specs.Records.{circuit_of, fibre_of, assignment_of, circuit_bytes, fibre_bytes, assignment_bytes}
 use Rattle.records.specs.declared.Circuit.{Circuit}
 use Rattle.records.specs.declared.FibreRecord.{FibreRecord}
@@ -21,10 +21,10 @@ pub le16_bytes16 : (v : ℕ) → le16 (bytes16 v) 0 ≡ v
 le16_bytes16 v = mod-add-div v 256
 
 -- the bytes of a line's file say that line, which is on grid 1 if they do not name it
-pub line_read_written : (n w grid : ℕ) (named : Bool) → (named ≡ false → grid ≡ 1) → line_in (line_bytes n w grid named) ≡ Says (record { links = n; wavelengths = w; grid = grid })
+pub line_read_written : (n w grid : ℕ) (named : Bool) → (named ≡ false → grid ≡ 1) → line_in (line_bytes n w grid named) ≡ Some (record { links = n; wavelengths = w; grid = grid })
 unfolding line_in line_on line_bytes
-line_read_written n w grid false h = λ i. Says (record { links = le16_bytes16 n i; wavelengths = le16_bytes16 w i; grid = sym (h refl) i })
-line_read_written n w grid true h = λ i. Says (record { links = le16_bytes16 n i; wavelengths = le16_bytes16 w i; grid = le16_bytes16 grid i })
+line_read_written n w grid false h = λ i. Some (record { links = le16_bytes16 n i; wavelengths = le16_bytes16 w i; grid = sym (h refl) i })
+line_read_written n w grid true h = λ i. Some (record { links = le16_bytes16 n i; wavelengths = le16_bytes16 w i; grid = le16_bytes16 grid i })
 
 -- the four bytes of a number are read as that number
 pub le32_bytes32 : (v : ℕ) → le32 (bytes32 v) 0 ≡ v

@@ -1,5 +1,5 @@
 -- Which end is wrong: the test in its order, and what it says without running through the records. Assumes nothing.
-use Prim.Native.Nat.{ℕ, zero, suc, ◌+◌, ◌-◌, ◌*◌, ◌/◌, ◌%◌, ◌≤◌, ◌<◌}
+use Prim.Native.Nat.{ℕ, zero, suc, ◌+◌, ◌-◌, ◌*◌, ◌/◌, ◌%◌, ◌<◌}
 use mathlib.Core.Path.{◌≡◌, refl, ap, ◌∙◌, sym}
 use mathlib.Core.Bool.{Bool, true, false, not, ◌&&◌, ◌||◌}
 use mathlib.Core.Logic.{inl, inr, ◌≢◌}
@@ -14,7 +14,12 @@ use Rattle.records.specs.Records.{record_at, circuit_of, number_in}
 use Rattle.records.specs.declared.Circuit.{Circuit}
 use Rattle.records.specs.declared.Line.{Line}
 use Rattle.grid.specs.Frequencies.{is_grid, limit_of}
-use Rattle.refusals.specs.Refusals.{Refusal}
+use Rattle.std.specs.Prelude.{Option as Told, None, is_some}
+use Rattle.refusals.specs.Refusals.{number_of}
+use Rattle.refusals.specs.declared.Refusal.{Refusal}
+use Rattle.refusals.specs.declared.Reason.{Reason}
+use Rattle.refusals.specs.declared.Reason.TheVariants.{PartRecord, TooManyCircuits, Links, Wavelengths, NumberZero, WrongEnd, NumberTwice, FibreRoom, AssignmentRoom, WorkRoom, Grid}
+use Rattle.refusals.specs.declared.End.{End}
 use Rattle.refusals.specs.Table.{Row, whenever, wherever, first_record, bad_ends, wrong_end, no_end, repeats, row6, file_rows, line_rows, record_rows, circuit_rows, area_rows, plan_table}
 use Rattle.refusals.specs.Given.{row_at}
 use Rattle.refusals.specs.Ends.{FirstFault, Faultless, EndTold, TellsEnd}
@@ -24,21 +29,13 @@ use Rattle.refusals.proofs.Passed.{good_ends}
 use Rattle.refusals.proofs.Pieces.{wherever_gives}
 
 module _ (n : ℕ) (c : Circuit) where
-  -- a circuit of which an end is told does not lie on the line
-  pub end_bad : 0 < wrong_end n c → bad_ends n c ≡ true
+  -- an end is told of a circuit exactly if it does not lie on the line
+  pub end_bad : is_some (wrong_end n c) ≡ bad_ends n c
   unfolding wrong_end bad_ends
-  end_bad h =
+  end_bad =
       on (eqb c.first 0) (λ a. rw a)
       (λ a. on (ltb c.last c.first) (λ b. rw (a, b))
-      (λ b. on (ltb n c.last) (λ d. rw (a, b, d)) (λ d. absurd (let z : 0 < 0 = rw (a, b, d) at h in omega arith))))
-
-  -- one of which none is told does
-  pub end_good : wrong_end n c ≤ 0 → bad_ends n c ≡ false
-  unfolding wrong_end bad_ends
-  end_good h =
-      on (eqb c.first 0) (λ a. absurd (let z : 1 ≤ 0 = rw a at h in omega arith))
-      (λ a. on (ltb c.last c.first) (λ b. absurd (let z : 2 ≤ 0 = rw (a, b) at h in omega arith))
-      (λ b. on (ltb n c.last) (λ d. absurd (let z : 3 ≤ 0 = rw (a, b, d) at h in omega arith)) (λ d. rw (a, b, d))))
+      (λ b. on (ltb n c.last) (λ d. rw (a, b, d)) (λ d. rw (a, b, d))))
 
   -- what is told of a circuit that does not lie on the line is its first fault
   told_fault : bad_ends n c ≡ true → FirstFault n c (wrong_end n c)
@@ -54,7 +51,7 @@ module _ (n : ℕ) (c : Circuit) where
 pub end_told : (n m : ℕ) (s : List ℕ) (r : Refusal) → row6 n s m ≡ some r → EndTold n m s r.place r.end
 end_told n m s r e = go (first_record (λ i. bad_ends n (circuit_of (record_at s i))) m) refl e
   where
-    go : (o : Option ℕ) → first_record (λ i. bad_ends n (circuit_of (record_at s i))) m ≡ o → wherever 6 (λ i. wrong_end n (circuit_of (record_at s i))) o ≡ some r → EndTold n m s r.place r.end
+    go : (o : Option ℕ) → first_record (λ i. bad_ends n (circuit_of (record_at s i))) m ≡ o → wherever WrongEnd (λ i. wrong_end n (circuit_of (record_at s i))) o ≡ some r → EndTold n m s r.place r.end
     go none f e = absurd (let z : ◌≡◌ {A = ℕ} 0 1 = cc in omega arith)
     go (some place) f e =
         let k = record_first (λ i. bad_ends n (circuit_of (record_at s i))) m place f in
@@ -70,7 +67,7 @@ end_told n m s r e = go (first_record (λ i. bad_ends n (circuit_of (record_at s
         }
 
 -- the fault that a circuit has is what is told of it
-fault_told : (n : ℕ) (c : Circuit) (end : ℕ) → FirstFault n c end → (bad_ends n c ≡ true) × (wrong_end n c ≡ end)
+fault_told : (n : ℕ) (c : Circuit) (end : Told End) → FirstFault n c end → (bad_ends n c ≡ true) × (wrong_end n c ≡ end)
 unfolding wrong_end bad_ends
 fault_told n c end (inl h) = let a = eq-eqb c.first 0 h.1 in (rw a, rw (a, h.0))
 fault_told n c end (inr (inl h)) =
@@ -90,13 +87,13 @@ faultless_good n c h =
     rw (ne_eqb c.first 0 (let l = h.0 in λ z. omega arith), le-ltb c.last c.first h.1, le-ltb n c.last h.2)
 
 -- and nothing else is told: no other place, no other end
-pub end_only : (n m : ℕ) (s : List ℕ) (place end : ℕ) → EndTold n m s place end → row6 n s m ≡ some (record { number = 6; place = place; end = end })
+pub end_only : (n m : ℕ) (s : List ℕ) (place : ℕ) (end : Told End) → EndTold n m s place end → row6 n s m ≡ some (record { reason = WrongEnd; place = place; end = end })
 end_only n m s place end t =
     let f = fault_told n (circuit_of (record_at s t.index)) end t.fault in
     let e = first_hit (λ i. bad_ends n (circuit_of (record_at s i))) m t.index t.there f.0 (λ i l. faultless_good n (circuit_of (record_at s i)) (t.before i l)) in
     let j : suc t.index - 1 ≡ t.index = omega arith in
-    ap (wherever 6 (λ i. wrong_end n (circuit_of (record_at s i)))) e
-    ∙ (λ i. some (record { number = 6; place = sym t.placed i; end = (ap (λ (x : ℕ). wrong_end n (circuit_of (record_at s x))) j ∙ f.1) i }))
+    ap (wherever WrongEnd (λ i. wrong_end n (circuit_of (record_at s i)))) e
+    ∙ (λ i. some (record { reason = WrongEnd; place = sym t.placed i; end = (ap (λ (x : ℕ). wrong_end n (circuit_of (record_at s x))) j ∙ f.1) i }))
 
 -- TABLES. Each row that applies gives a refusal of which P holds
 pub record EachGives (P : Refusal → Type 0) (rows : List Row) : Type 0 where
@@ -123,18 +120,18 @@ module _ (P : Refusal → Type 0) where
 
 module _ (n m : ℕ) (s : List ℕ) where
   -- a row that applies as a whole, other than 6
-  pub whole_tells : (x : ℕ) (b : Bool) → x ≢ 6 → (r : Refusal) → whenever x b ≡ some r → TellsEnd n m s r
-  whole_tells x true z r e = let a : r.number ≡ x = cc in let d : r.end ≡ 0 = cc in record { six = λ q. absurd (z (sym a ∙ q)); other = λ q. d }
+  pub whole_tells : (x : Reason) (b : Bool) → number_of x ≢ 6 → (r : Refusal) → whenever x b ≡ some r → TellsEnd n m s r
+  whole_tells x true z r e = let a : number_of r.reason ≡ number_of x = cc in let d : r.end ≡ None = cc in record { six = λ q. absurd (z (sym a ∙ q)); other = λ q. d }
   whole_tells x false z r e = absurd (let y : ◌≡◌ {A = ℕ} 0 1 = cc in omega arith)
 
   -- a row that applies to a record, other than 6
-  pub each_tells : (x : ℕ) (o : Option ℕ) → x ≢ 6 → (r : Refusal) → wherever x no_end o ≡ some r → TellsEnd n m s r
-  each_tells x (some place) z r e = let a : r.number ≡ x = cc in let d : r.end ≡ 0 = cc in record { six = λ q. absurd (z (sym a ∙ q)); other = λ q. d }
+  pub each_tells : (x : Reason) (o : Option ℕ) → number_of x ≢ 6 → (r : Refusal) → wherever x no_end o ≡ some r → TellsEnd n m s r
+  each_tells x (some place) z r e = let a : number_of r.reason ≡ number_of x = cc in let d : r.end ≡ None = cc in record { six = λ q. absurd (z (sym a ∙ q)); other = λ q. d }
   each_tells x none z r e = absurd (let y : ◌≡◌ {A = ℕ} 0 1 = cc in omega arith)
 
   -- row 6
   six_tells : (r : Refusal) → row6 n s m ≡ some r → TellsEnd n m s r
-  six_tells r e = record { six = λ q. end_told n m s r e; other = λ q. absurd (q (wherever_gives 6 (λ i. wrong_end n (circuit_of (record_at s i))) (first_record (λ i. bad_ends n (circuit_of (record_at s i))) m) r e)) }
+  six_tells r e = record { six = λ q. end_told n m s r e; other = λ q. absurd (q (wherever_gives WrongEnd (λ i. wrong_end n (circuit_of (record_at s i))) (first_record (λ i. bad_ends n (circuit_of (record_at s i))) m) r e)) }
 
 -- tests 1 to 7 and 12
 pub circuits_tell : (line : Line) (s : List ℕ) → EachGives (TellsEnd line.links (length s / 8) s) (circuit_rows line s)
@@ -145,14 +142,14 @@ circuits_tell line s =
     let P : Refusal → Type 0 = TellsEnd n m s in
     let whole = whole_tells n m s in
     let each = each_tells n m s in
-    each_more P _ _ (whole 1 (not (eqb (length s % 8) 0)) (λ z. omega arith))
-    (each_more P _ _ (whole 2 (ltb 2048 m) (λ z. omega arith))
-    (each_more P _ _ (whole 3 (not (leb 1 n && leb n 512)) (λ z. omega arith))
-    (each_more P _ _ (whole 12 (not (is_grid line.grid)) (λ z. omega arith))
-    (each_more P _ _ (whole 4 (not (leb 1 line.wavelengths && leb line.wavelengths (limit_of line.grid))) (λ z. omega arith))
-    (each_more P _ _ (each 5 (first_record (λ i. eqb (number_in s i) 0) m) (λ z. omega arith))
+    each_more P _ _ (whole PartRecord (not (eqb (length s % 8) 0)) (λ z. omega arith))
+    (each_more P _ _ (whole TooManyCircuits (ltb 2048 m) (λ z. omega arith))
+    (each_more P _ _ (whole Links (not (leb 1 n && leb n 512)) (λ z. omega arith))
+    (each_more P _ _ (whole Grid (not (is_grid line.grid)) (λ z. omega arith))
+    (each_more P _ _ (whole Wavelengths (not (leb 1 line.wavelengths && leb line.wavelengths (limit_of line.grid))) (λ z. omega arith))
+    (each_more P _ _ (each NumberZero (first_record (λ i. eqb (number_in s i) 0) m) (λ z. omega arith))
     (each_more P _ _ (six_tells n m s)
-    (each_more P _ _ (each 7 (first_record (repeats s) m) (λ z. omega arith))
+    (each_more P _ _ (each NumberTwice (first_record (repeats s) m) (λ z. omega arith))
     (each_end P))))))))
 
 -- the whole table of the planner
@@ -164,7 +161,7 @@ plan_tells line s fibres assigns work =
     let P : Refusal → Type 0 = TellsEnd n m s in
     let whole = whole_tells n m s in
     each_both P (circuit_rows line s) _ (circuits_tell line s)
-    (each_more P _ _ (whole 8 (ltb fibres (8 * m)) (λ z. omega arith))
-    (each_more P _ _ (whole 9 (ltb assigns (8 * m)) (λ z. omega arith))
-    (each_more P _ _ (whole 10 (ltb work (4 * n + 4 * m)) (λ z. omega arith))
+    (each_more P _ _ (whole FibreRoom (ltb fibres (8 * m)) (λ z. omega arith))
+    (each_more P _ _ (whole AssignmentRoom (ltb assigns (8 * m)) (λ z. omega arith))
+    (each_more P _ _ (whole WorkRoom (ltb work (4 * n + 4 * m)) (λ z. omega arith))
     (each_end P))))

@@ -10,8 +10,9 @@ use borrow.Author.Tests.{ltb-true, ltb-false}
 use Rattle.basics.specs.Tools.{seek}
 use Rattle.basics.proofs.Bools.{on}
 use Rattle.basics.proofs.Searches.{seek_hit, seek_miss}
-use Rattle.refusals.specs.declared.Verdict.TheVariants.{Checked}
-use Rattle.refusals.specs.Refusals.{Refusal, refused_with, refused_or}
+use Rattle.std.specs.Prelude.{Result, Ok, Err}
+use Rattle.refusals.specs.Refusals.{refused_or}
+use Rattle.refusals.specs.declared.Refusal.{Refusal}
 use Rattle.refusals.specs.Table.{Row, first_record, verdict}
 use Rattle.refusals.specs.Given.{row_at, Given, NoneApplies}
 use Rattle.refusals.proofs.Pieces.{none_end, none_first, none_more, none_rest}
@@ -54,36 +55,28 @@ given_later row rows r e g = record {
     before zero h = e
     before (suc i) h = g.first i (omega arith)
 
--- a refusal that is told as a verdict is told whole
-pub refused_same : (r q : Refusal) → refused_with r ≡ refused_with q → r ≡ q
-refused_same r q e =
-    let a : r.number ≡ q.number = cc in
-    let b : r.place ≡ q.place = cc in
-    let c : r.end ≡ q.end = cc in
-    λ i. record { number = a i; place = b i; end = c i }
-
--- a verdict that refuses is none that passed
-pub refused_not_checked : {A : Type 0} (r : Refusal) (x : ℕ) → refused_with r ≡ Checked x → A
-refused_not_checked r x e = absurd (let z : ◌≡◌ {A = ℕ} 0 1 = cc in omega arith)
+-- an answer that refuses is none that passed
+pub refused_not_checked : {A B : Type 0} (r : Refusal) (x : B) → ◌≡◌ {A = Result B Refusal} (Err r) (Ok x) → A
+refused_not_checked r x e = cc
 
 -- a refusal is that of the first row that applies
-pub verdict_refused : (rows : List Row) (x : ℕ) (r : Refusal) → verdict rows x ≡ refused_with r → Given rows r
+pub verdict_refused : (rows : List Row) (x : ℕ) (r : Refusal) → verdict rows x ≡ Err r → Given rows r
 unfolding verdict
 verdict_refused [] x r e = refused_not_checked r x (sym e)
 verdict_refused (none ∷ rows) x r e = given_later none rows r refl (verdict_refused rows x r e)
 verdict_refused (some q ∷ rows) x r e = record {
   index = 0;
   below = omega arith;
-  here = ap some (refused_same q r e);
+  here = cc;
   first = λ i h. absurd (omega arith);
 }
 
 -- the first row that applies is refused with its number, place and end
-pub verdict_given : (rows : List Row) (x : ℕ) (r : Refusal) → Given rows r → verdict rows x ≡ refused_with r
+pub verdict_given : (rows : List Row) (x : ℕ) (r : Refusal) → Given rows r → verdict rows x ≡ Err r
 verdict_given [] x r g = absurd (omega (arith, g.below))
 verdict_given (row ∷ rows) x r g = go g.index refl (verdict_given rows x r)
   where
-    go : (k : ℕ) → g.index ≡ k → (Given rows r → verdict rows x ≡ refused_with r) → verdict (row ∷ rows) x ≡ refused_with r
+    go : (k : ℕ) → g.index ≡ k → (Given rows r → verdict rows x ≡ Err r) → verdict (row ∷ rows) x ≡ Err r
     go zero q ih = verdict_row row rows x (some r) (ap (λ (i : ℕ). row_at (row ∷ rows) i) (sym q) ∙ g.here)
     go (suc k) q ih =
         verdict_row row rows x none (g.first 0 (omega arith))
@@ -96,14 +89,14 @@ verdict_given (row ∷ rows) x r g = go g.index refl (verdict_given rows x r)
         })
 
 -- a verdict that does not refuse is what was to be found, and no row applies
-pub verdict_passed : (rows : List Row) (x y : ℕ) → verdict rows x ≡ Checked y → (y ≡ x) × NoneApplies rows
+pub verdict_passed : (rows : List Row) (x y : ℕ) → verdict rows x ≡ Ok y → (y ≡ x) × NoneApplies rows
 unfolding verdict
 verdict_passed [] x y e = (cc, none_end)
 verdict_passed (some r ∷ rows) x y e = refused_not_checked r y e
 verdict_passed (none ∷ rows) x y e = let q = verdict_passed rows x y e in (q.0, none_more none rows refl q.1)
 
 -- where no row applies nothing is refused
-pub verdict_passes : (rows : List Row) (x : ℕ) → NoneApplies rows → verdict rows x ≡ Checked x
+pub verdict_passes : (rows : List Row) (x : ℕ) → NoneApplies rows → verdict rows x ≡ Ok x
 unfolding verdict
 verdict_passes [] x f = refl
 verdict_passes (row ∷ rows) x f = verdict_row row rows x none (none_first row rows f) ∙ verdict_passes rows x (none_rest row rows f)

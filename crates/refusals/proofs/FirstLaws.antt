@@ -12,7 +12,9 @@ use Rattle.basics.proofs.Bools.{by_eq}
 use Rattle.basics.proofs.Searches.{seek_first, seek_none}
 use Rattle.records.specs.Records.{record_at, circuit_of, number_in}
 use Rattle.records.specs.declared.Circuit.{Circuit}
-use Rattle.refusals.specs.declared.Verdict.TheVariants.{Checked, Refused}
+use Rattle.std.specs.Prelude.{Option as Told, Ok, Err}
+use Rattle.refusals.specs.declared.Reason.{Reason}
+use Rattle.refusals.specs.declared.End.{End}
 use Rattle.refusals.specs.Table.{first_record, tested, wherever}
 
 -- the number of a record that was read
@@ -39,13 +41,13 @@ module _ (p : ℕ → Bool) where
   none_more j before f i h = by_eq i j (λ e. rw e f) (λ e. before i (omega arith))
 
   -- the refusal of record j is what the test answers, if it is the first that passes
-  pub refused_at : (number : ℕ) (end_at : ℕ → ℕ) (m x j : ℕ) → j < m → p j ≡ true → ((i : ℕ) → i < j → p i ≡ false)
-      → Refused number (j + 1) (end_at j) ≡ tested (wherever number end_at (first_record p m)) x
-  refused_at number end_at m x j h t before =
+  pub refused_at : (reason : Reason) (end_at : ℕ → Told End) (m x j : ℕ) → j < m → p j ≡ true → ((i : ℕ) → i < j → p i ≡ false)
+      → Err (record { reason = reason; place = j + 1; end = end_at j }) ≡ tested (wherever reason end_at (first_record p m)) x
+  refused_at reason end_at m x j h t before =
       let e : suc j - 1 ≡ j = omega arith in
-      (λ i. Refused number (add-one j i) (end_at (sym e i))) ∙ sym (ap (λ (o : Option ℕ). tested (wherever number end_at o) x) (first_hit m j h t before))
+      (λ i. Err (record { reason = reason; place = add-one j i; end = end_at (sym e i) })) ∙ sym (ap (λ (o : Option ℕ). tested (wherever reason end_at o) x) (first_hit m j h t before))
 
   -- a test in which no record passes answers what it found
-  pub checked_all : (number : ℕ) (end_at : ℕ → ℕ) (m x j : ℕ) → m ≤ j → ((i : ℕ) → i < j → p i ≡ false) → Checked x ≡ tested (wherever number end_at (first_record p m)) x
-  checked_all number end_at m x j h before =
-      sym (ap (λ (o : Option ℕ). tested (wherever number end_at o) x) (first_end m (λ i l. before i (omega arith))))
+  pub checked_all : (reason : Reason) (end_at : ℕ → Told End) (m x j : ℕ) → m ≤ j → ((i : ℕ) → i < j → p i ≡ false) → Ok x ≡ tested (wherever reason end_at (first_record p m)) x
+  checked_all reason end_at m x j h before =
+      sym (ap (λ (o : Option ℕ). tested (wherever reason end_at o) x) (first_end m (λ i l. before i (omega arith))))

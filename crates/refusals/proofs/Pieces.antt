@@ -10,7 +10,12 @@ use lib.Dec.{leb, ltb, eqb}
 use Rattle.records.specs.Records.{record_at, circuit_of, number_in}
 use Rattle.records.specs.declared.Line.{Line}
 use Rattle.grid.specs.Frequencies.{is_grid, limit_of}
-use Rattle.refusals.specs.Refusals.{Refusal}
+use Rattle.std.specs.Prelude.{Option as Told}
+use Rattle.refusals.specs.Refusals.{number_of}
+use Rattle.refusals.specs.declared.Refusal.{Refusal}
+use Rattle.refusals.specs.declared.Reason.{Reason}
+use Rattle.refusals.specs.declared.Reason.TheVariants.{PartRecord, TooManyCircuits, Links, Wavelengths, NumberZero, WrongEnd, NumberTwice, FibreRoom, AssignmentRoom, WorkRoom, Grid}
+use Rattle.refusals.specs.declared.End.{End}
 use Rattle.refusals.specs.Table.{Row, whenever, wherever, first_record, bad_ends, wrong_end, no_end, repeats, file_rows, line_rows, record_rows, circuit_rows, area_rows, plan_table}
 use Rattle.refusals.specs.Given.{row_at, InOrder, NoneApplies}
 
@@ -50,14 +55,14 @@ none_right [] rows f = f
 none_right (row ∷ rs) rows f = none_right rs rows (none_rest row (rs ++ rows) f)
 
 -- NUMBERS. A row that applies as a whole gives its number
-pub whenever_gives : (x : ℕ) (b : Bool) (r : Refusal) → whenever x b ≡ some r → r.number ≡ x
+pub whenever_gives : (x : Reason) (b : Bool) (r : Refusal) → whenever x b ≡ some r → number_of r.reason ≡ number_of x
 whenever_gives x true r e = cc
-whenever_gives x false r e = absurd (let z : ◌≡◌ {A = ℕ} 0 1 = cc in omega arith)
+whenever_gives x false r e = cc
 
 -- a row that applies to a record gives its number
-pub wherever_gives : (x : ℕ) (end_at : ℕ → ℕ) (o : Option ℕ) (r : Refusal) → wherever x end_at o ≡ some r → r.number ≡ x
+pub wherever_gives : (x : Reason) (end_at : ℕ → Told End) (o : Option ℕ) (r : Refusal) → wherever x end_at o ≡ some r → number_of r.reason ≡ number_of x
 wherever_gives x end_at (some place) r e = cc
-wherever_gives x end_at none r e = absurd (let z : ◌≡◌ {A = ℕ} 0 1 = cc in omega arith)
+wherever_gives x end_at none r e = cc
 
 -- two pieces, each in its order, stand in the order of both
 pub in_order_both : (xs ys : List ℕ) (rs rows : List Row) → InOrder xs rs → InOrder ys rows → InOrder (xs ++ ys) (rs ++ rows)
@@ -69,27 +74,27 @@ in_order_both (x ∷ xs) ys (row ∷ rs) rows o p = (o.0, in_order_both xs ys rs
 -- the circuit bytes
 file_in_order : (s : List ℕ) → InOrder (1 ∷ 2 ∷ []) (file_rows s)
 unfolding file_rows
-file_in_order s = (whenever_gives 1 (not (eqb (length s % 8) 0)), (whenever_gives 2 (ltb 2048 (length s / 8)), tt))
+file_in_order s = (whenever_gives PartRecord (not (eqb (length s % 8) 0)), (whenever_gives TooManyCircuits (ltb 2048 (length s / 8)), tt))
 
 -- the line
 pub line_in_order : (line : Line) → InOrder (3 ∷ 12 ∷ 4 ∷ []) (line_rows line)
 unfolding line_rows
 line_in_order line =
-    let four = whenever_gives 4 (not (leb 1 line.wavelengths && leb line.wavelengths (limit_of line.grid))) in
-    (whenever_gives 3 (not (leb 1 line.links && leb line.links 512)), (whenever_gives 12 (not (is_grid line.grid)), (four, tt)))
+    let four = whenever_gives Wavelengths (not (leb 1 line.wavelengths && leb line.wavelengths (limit_of line.grid))) in
+    (whenever_gives Links (not (leb 1 line.links && leb line.links 512)), (whenever_gives Grid (not (is_grid line.grid)), (four, tt)))
 
 -- the records
 record_in_order : (n m : ℕ) (s : List ℕ) → InOrder (5 ∷ 6 ∷ 7 ∷ []) (record_rows n m s)
 unfolding record_rows
 record_in_order n m s =
-    let six = wherever_gives 6 (λ i. wrong_end n (circuit_of (record_at s i))) (first_record (λ i. bad_ends n (circuit_of (record_at s i))) m) in
-    (wherever_gives 5 no_end (first_record (λ i. eqb (number_in s i) 0) m), (six, (wherever_gives 7 no_end (first_record (repeats s) m), tt)))
+    let six = wherever_gives WrongEnd (λ i. wrong_end n (circuit_of (record_at s i))) (first_record (λ i. bad_ends n (circuit_of (record_at s i))) m) in
+    (wherever_gives NumberZero no_end (first_record (λ i. eqb (number_in s i) 0) m), (six, (wherever_gives NumberTwice no_end (first_record (repeats s) m), tt)))
 
 -- the lent areas
 area_in_order : (n m fibres assigns work : ℕ) → InOrder (8 ∷ 9 ∷ 10 ∷ []) (area_rows n m fibres assigns work)
 unfolding area_rows
 area_in_order n m fibres assigns work =
-    (whenever_gives 8 (ltb fibres (8 * m)), (whenever_gives 9 (ltb assigns (8 * m)), (whenever_gives 10 (ltb work (4 * n + 4 * m)), tt)))
+    (whenever_gives FibreRoom (ltb fibres (8 * m)), (whenever_gives AssignmentRoom (ltb assigns (8 * m)), (whenever_gives WorkRoom (ltb work (4 * n + 4 * m)), tt)))
 
 -- tests 1 to 7 and 12
 circuits_in_order : (line : Line) (s : List ℕ) → InOrder (1 ∷ 2 ∷ 3 ∷ 12 ∷ 4 ∷ 5 ∷ 6 ∷ 7 ∷ []) (circuit_rows line s)

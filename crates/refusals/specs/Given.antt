@@ -2,7 +2,8 @@
 -- Assumes nothing.
 use Rattle.std.specs.Prelude.{ℕ, ◌<◌, ◌≡◌, List, [], ◌∷◌, length, get_or}
 use Rattle.std.proofs.Math.Option.{none, some}
-use Rattle.refusals.specs.Refusals.{Refusal}
+use Rattle.refusals.specs.Refusals.{number_of}
+use Rattle.refusals.specs.declared.Refusal.{Refusal}
 use Rattle.refusals.specs.Table.{Row}
 
 -- row i of a table, counted from 0; past its end stands a row that never applies
@@ -21,7 +22,7 @@ abbrev pub InOrder : List ℕ → List Row → Type 0
 InOrder [] [] = Unit {0}
 InOrder [] (row ∷ rows) = ⊥
 InOrder (x ∷ xs) [] = ⊥
-InOrder (x ∷ xs) (row ∷ rows) = ((r : Refusal) → row ≡ some r → r.number ≡ x) × InOrder xs rows
+InOrder (x ∷ xs) (row ∷ rows) = ((r : Refusal) → row ≡ some r → number_of r.reason ≡ x) × InOrder xs rows
 
 -- no row of the table applies
 pub record NoneApplies (rows : List Row) : Type 0 where

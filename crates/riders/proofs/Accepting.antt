@@ -15,9 +15,9 @@ use Rattle.method.specs.Line.{circuit, nobody, Lies}
 use Rattle.refusals.specs.Given.{NoneApplies}
 use Rattle.refusals.specs.Refusals.{refusal_in}
 use Rattle.refusals.specs.Table.{has_number, no_end, row3, row6, tested, verdict}
-use Rattle.refusals.specs.declared.Verdict.{Verdict}
-use Rattle.refusals.specs.declared.Verdict.TheVariants.{Checked, Refused as Failed}
-use Rattle.refusals.proofs.Chain.{gives, leaves, accepts, piece_gives, piece_leaves}
+use Rattle.std.specs.Prelude.{Ok, Err}
+use Rattle.refusals.specs.declared.Refusal.{Refusal}
+use Rattle.refusals.specs.declared.Reason.TheVariants.{NumberTaken, IndexRoom}
 use Rattle.refusals.proofs.First.{verdict_passed, record_none}
 use Rattle.refusals.proofs.Passed.{passed3, passed6, passed7, passed_room, wherever_none}
 use Rattle.refusals.proofs.Pieces.{none_first, none_left, none_rest, none_right}
@@ -27,33 +27,21 @@ use Rattle.two_files.proofs.JoinLaws.{record_old, record_new}
 use Rattle.two_files.proofs.LaterLaws.{later_out}
 use Rattle.two_files.proofs.Told.{old_whole, new_whole, both_few, both_unlike, both_on_line}
 use Rattle.riders.specs.Index.{Index, cells_for}
-use Rattle.riders.specs.Outcome.{both_of, row15, index_table, judged, answer_by, IfAccepted, Outcome}
-use Rattle.riders.specs.declared.Answer.TheVariants.{Indexed, Refused}
+use Rattle.riders.specs.Outcome.{Answer, both_of, index_table, judged, answer_by, IfAccepted, Outcome}
 
--- IN THE CHAIN. What a return asks, be it after a test or after a piece
-pub ruleset chain = (gives, leaves, piece_gives, piece_leaves, accepts)
-
--- the line passed: it has at most 512 links
-pub line_short : (n x z y : ℕ) (t : Verdict) → t ≡ tested (row3 x n) z → t ≡ Checked y → n ≤ x
+-- IN THE CHAIN. The line passed: it has at most 512 links
+pub line_short : (n x z y : ℕ) → tested (row3 x n) z ≡ Ok y → n ≤ x
 unfolding verdict
-line_short n x z y t a b = (passed3 x n (none_first _ _ (verdict_passed (row3 x n ∷ []) z y (sym a ∙ b)).1)).1
-
--- the last test, for as many cells as the index has
-pub room_told : (n : ℕ) (old new : List ℕ) (has needed : ℕ) (t : Verdict) → t ≡ tested (row15 needed has) needed → needed ≡ cells_for n (both_of old new)
-    → t ≡ verdict (row15 (cells_for n (both_of old new)) has ∷ []) (cells_for n (both_of old new))
-unfolding verdict
-room_told n old new has needed t a e = a ∙ ap (λ (x : ℕ). tested (row15 x has) x) e
+line_short n x z y e = (passed3 x n (none_first _ _ (verdict_passed (row3 x n ∷ []) z y e).1)).1
 
 -- the circuits of a file whose row 6 does not apply lie on the line
 file_lies : (n m : ℕ) (s : List ℕ) → row6 n s m ≡ none → Lies n (circuits_in m s)
 file_lies n m s e j h = let b : j < m = omega (arith, length_circuits_in m s) in rw (circuits_in_at m s j nobody b) (passed6 n s m e j b)
 
 -- the records passed: the circuits of each file lie on the line
-pub records_lie : (n k m : ℕ) (old new : List ℕ) (z y : ℕ) (t : Verdict) → 8 * k ≡ length old → t ≡ verdict (two_record_rows n k m old new) z → t ≡ Checked y
-    → Lies n (circuits_in k old) × Lies n (circuits_in m new)
-records_lie n k m old new z y t whole a b =
-    let f = (verdict_passed (two_record_rows n k m old new) z y (sym a ∙ b)).1 in
-    let r = both_on_line n k m old new f whole in
+pub records_lie : (n k m : ℕ) (old new : List ℕ) (z y : ℕ) → 8 * k ≡ length old → verdict (two_record_rows n k m old new) z ≡ Ok y → Lies n (circuits_in k old) × Lies n (circuits_in m new)
+records_lie n k m old new z y whole e =
+    let r = both_on_line n k m old new (verdict_passed (two_record_rows n k m old new) z y e).1 whole in
     (file_lies n k old r.0, file_lies n m new r.1)
 
 module _ (n : ℕ) (old new : List ℕ) (has : ℕ) (passed : NoneApplies (index_table n old new has)) where
@@ -91,7 +79,7 @@ module _ (n : ℕ) (old new : List ℕ) (has : ℕ) (passed : NoneApplies (index
   -- there is room
   pub room : cells_for n (both_of old new) ≤ has
   unfolding index_table
-  room = passed_room 15 (cells_for n (both_of old new)) has (none_first _ _ (none_rest _ _ (none_right (two_record_rows n k m old new) _ (none_rest _ _ (none_right (two_file_rows old new) _ passed)))))
+  room = passed_room IndexRoom (cells_for n (both_of old new)) has (none_first _ _ (none_rest _ _ (none_right (two_record_rows n k m old new) _ (none_rest _ _ (none_right (two_file_rows old new) _ passed)))))
 
   -- the number of a record of the old file
   number_old : (i : ℕ) → i < k → number_in (old ++ new) i ≡ number_in old i
@@ -105,7 +93,7 @@ module _ (n : ℕ) (old new : List ℕ) (has : ℕ) (passed : NoneApplies (index
   apart : (i j : ℕ) → i < k → j < m → number_in old i ≡ number_in new j → ⊥
   unfolding has_old
   apart i j h l e =
-      let z = record_none (has_old old k new) m (wherever_none 14 no_end _ (later_out k _ of_others)) j l in
+      let z = record_none (has_old old k new) m (wherever_none NumberTaken no_end _ (later_out k _ of_others)) j l in
       eqb-false (number_in old i) (number_in new j) (any_false (has_number old (number_in new j)) k z i h) e
 
   -- no number stands twice in both files
@@ -147,34 +135,26 @@ module _ (n : ℕ) (old new : List ℕ) (has : ℕ) (passed : NoneApplies (index
 
 module _ (n : ℕ) (old new before : List ℕ) where
   -- all tests passed, so no row applies
-  pub none_applies : (cells : ℕ) → judged n old new before ≡ Checked cells → (cells ≡ cells_for n (both_of old new)) × NoneApplies (index_table n old new (length before))
+  pub none_applies : (cells : ℕ) → judged n old new before ≡ Ok cells → (cells ≡ cells_for n (both_of old new)) × NoneApplies (index_table n old new (length before))
   unfolding judged
   none_applies cells j = verdict_passed (index_table n old new (length before)) (cells_for n (both_of old new)) cells j
 
   -- the index may be built
-  pub may_build : (cells : ℕ) (t : Verdict) → t ≡ verdict (index_table n old new (length before)) (cells_for n (both_of old new)) → t ≡ Checked cells
-      → OnLine n (length old / 8 + length new / 8) (old ++ new) × (cells_for n (both_of old new) ≤ length before)
-  unfolding judged
-  may_build cells t a b = let p = (none_applies cells (sym a ∙ b)).1 in (accepted n old new (length before) p, room n old new (length before) p)
+  pub may_build : (cells : ℕ) → judged n old new before ≡ Ok cells → OnLine n (length old / 8 + length new / 8) (old ++ new) × (cells_for n (both_of old new) ≤ length before)
+  may_build cells j = let p = (none_applies cells j).1 in (accepted n old new (length before) p, room n old new (length before) p)
 
   -- a refusal changes nothing
-  pub refused : (t : Verdict) (number place end : ℕ) → t ≡ verdict (index_table n old new (length before)) (cells_for n (both_of old new)) → t ≡ Failed number place end
-      → Outcome n old new before before (Refused number place end)
-  unfolding judged
-  refused t number place end a b =
-      let j : judged n old new before ≡ Failed number place end = sym a ∙ b in
+  pub refused : (r : Refusal) (answer : Answer) → judged n old new before ≡ Err r → answer ≡ Err r → Outcome n old new before before answer
+  refused r answer j e =
       record {
-        answered = sym (ap (λ (x : Verdict). answer_by x (cells_for n (both_of old new))) j);
-        indexed = subst (λ (x : Verdict). IfAccepted (refusal_in x) (Index n (both_of old new) before before) (before ≡ before)) (sym j) refl;
+        answered = e ∙ sym (ap (λ (x : Answer). answer_by x (cells_for n (both_of old new))) j);
+        indexed = subst (λ (x : Answer). IfAccepted (refusal_in x) (Index n (both_of old new) before before) (before ≡ before)) (sym j) refl;
       }
 
   -- where all tests passed the index is there
-  pub built : (cells : ℕ) (t : Verdict) (after : List ℕ) → t ≡ verdict (index_table n old new (length before)) (cells_for n (both_of old new)) → t ≡ Checked cells
-      → Index n (both_of old new) before after → Outcome n old new before after (Indexed cells)
-  unfolding judged
-  built cells t after a b x =
-      let j : judged n old new before ≡ Checked cells = sym a ∙ b in
+  pub built : (cells : ℕ) (after : List ℕ) → judged n old new before ≡ Ok cells → Index n (both_of old new) before after → Outcome n old new before after (Ok cells)
+  built cells after j x =
       record {
-        answered = ap Indexed (none_applies cells j).0 ∙ sym (ap (λ (y : Verdict). answer_by y (cells_for n (both_of old new))) j);
-        indexed = subst (λ (y : Verdict). IfAccepted (refusal_in y) (Index n (both_of old new) before after) (after ≡ before)) (sym j) x;
+        answered = ap Ok (none_applies cells j).0 ∙ sym (ap (λ (y : Answer). answer_by y (cells_for n (both_of old new))) j);
+        indexed = subst (λ (y : Answer). IfAccepted (refusal_in y) (Index n (both_of old new) before after) (after ≡ before)) (sym j) x;
       }

@@ -16,10 +16,12 @@ use Rattle.records.specs.declared.Circuit.{Circuit}
 use Rattle.method.specs.Line.{circuit, uses, Lies}
 use Rattle.method.specs.Sheet.{load}
 use Rattle.riders.specs.Index.{Riders, Index, start_of, cells_for}
+use Rattle.riders.specs.declared.columns.Columns.{Columns}
+use Rattle.riders.specs.declared.stretches.Shortlist.{Shortlist}
 use Rattle.riders.specs.inner.Picks.{row, rows, Rises, meets, listed, number_in, Near, near_to, Stretched}
 use Rattle.riders.proofs.LoadLaws.{count_same}
-use Rattle.riders.proofs.StartLaws.{start_first, start_next, start_high, start_later, start_in, starts_in}
-use Rattle.riders.proofs.PickLaws.{length_rows, rows_at, meets_more, near_reaches}
+use Rattle.riders.proofs.StartLaws.{cells_few, start_first, start_next, start_high, start_later, start_in, starts_in}
+use Rattle.riders.proofs.PickLaws.{length_rows, rows_at, meets_more, near_none, near_reaches}
 
 -- the numbers of the circuits that use link i stand from cell s on, no other, each once, rising
 pub record RidersFrom (cs : List Circuit) (i s : ℕ) (cells : List ℕ) : Type 0 where
@@ -47,38 +49,38 @@ riders_part cs i s cells room r =
       only = λ p b. (let x = r.only p (omega arith) in (x.0, x.1, x.2, g p (omega arith) ∙ x.3));
     }
 
-module _ (m : ℕ) (N F L : List ℕ) where
+module _ (C : Columns) where
   -- a row uses a link as its circuit does
-  uses_row : (i p : ℕ) → p < m → uses (circuit (rows m N F L) p) i ≡ meets i i F L p
+  uses_row : (i p : ℕ) → p < C.many → uses (circuit (rows C) p) i ≡ meets i i C p
   unfolding uses meets row
-  uses_row i p h = ap (λ (c : Circuit). leb c.first i && leb i c.last) (rows_at m N F L p h)
+  uses_row i p h = ap (λ (c : Circuit). leb c.first i && leb i c.last) (rows_at C p h)
 
   -- the number of its circuit
-  number_row : (p : ℕ) → p < m → (circuit (rows m N F L) p).number ≡ get_or N p 0
+  number_row : (p : ℕ) → p < C.many → (circuit (rows C) p).number ≡ get_or C.numbers p 0
   unfolding row
-  number_row p h = ap (λ (c : Circuit). c.number) (rows_at m N F L p h)
+  number_row p h = ap (λ (c : Circuit). c.number) (rows_at C p h)
 
   -- the load of a link is counted over the rows
-  pub load_rows : (i : ℕ) → load (rows m N F L) i ≡ count (meets i i F L) m
+  pub load_rows : (i : ℕ) → load (rows C) i ≡ count (meets i i C) C.many
   unfolding load
-  load_rows i = ap (count (λ j. uses (circuit (rows m N F L) j) i)) (length_rows m N F L) ∙ count_same (λ j. uses (circuit (rows m N F L) j) i) (meets i i F L) m (λ j h. uses_row i j h)
+  load_rows i = ap (count (λ j. uses (circuit (rows C) j) i)) (length_rows C) ∙ count_same (λ j. uses (circuit (rows C) j) i) (meets i i C) C.many (λ j h. uses_row i j h)
 
-  module _ (a e k : ℕ) (near : List ℕ) (s : Near m F L a e k near) (i : ℕ) (from : a ≤ i) (to : i ≤ e) where
+  module _ (a e : ℕ) (S : Shortlist) (s : Near C a e S) (i : ℕ) (from : a ≤ i) (to : i ≤ e) where
     -- the shortlist has as many as use the link
-    pub near_load : count (listed i F L near) k ≡ load (rows m N F L) i
+    pub near_load : count (listed i C S) S.many ≡ load (rows C) i
     near_load = s.loads i from to ∙ sym (load_rows i)
 
     -- the numbers of those of the shortlist that use the link are its riders
-    pub near_rides : Rises m N → (at : ℕ) (before : List ℕ) (end : ℕ) (cells : List ℕ) → Stretched (listed i F L near) (number_in N near) k at before end cells
-        → RidersFrom (rows m N F L) i at cells
+    pub near_rides : Rises C → (at : ℕ) (before : List ℕ) (end : ℕ) (cells : List ℕ) → Stretched (listed i C S) (number_in C S) S.many at before end cells
+        → RidersFrom (rows C) i at cells
     unfolding listed number_in
     near_rides rises at before end cells t =
-        let test = listed i F L near in
+        let test = listed i C S in
         let same = near_load in
         record {
           rising = λ p q h l.
-              let x = count_nth test k p (omega arith) in
-              let y = count_nth test k q (omega arith) in
+              let x = count_nth test S.many p (omega arith) in
+              let y = count_nth test S.many q (omega arith) in
               let x₁ = x.1 in
               let y₁ = y.1 in
               let x₃ = x.3 in
@@ -89,19 +91,19 @@ module _ (m : ℕ) (N F L : List ℕ) where
               (λ g. g) in
               let u = ap (λ (v : ℕ). get_or cells (at + v) 0) x₃ in
               let w = ap (λ (v : ℕ). get_or cells (at + v) 0) y₃ in
-              omega (arith, t.put x.0 x₁ x.2, t.put y.0 y₁ y.2, rises (get_or near x.0 0) (get_or near y.0 0) (s.rising x.0 y.0 below y₁) (s.only y.0 y₁));
+              omega (arith, t.put x.0 x₁ x.2, t.put y.0 y₁ y.2, rises (get_or S.places x.0 0) (get_or S.places y.0 0) (s.rising x.0 y.0 below y₁) (s.only y.0 y₁));
           all = λ j h u.
-              let b : j < m = omega (arith, length_rows m N F L) in
-              let g : meets i i F L j ≡ true = sym (uses_row i j b) ∙ u in
-              let x = s.all j b (meets_more a e i i F L j from to g) in
+              let b : j < C.many = omega (arith, length_rows C) in
+              let g : meets i i C j ≡ true = sym (uses_row i j b) ∙ u in
+              let x = s.all j b (meets_more a e i i C j from to g) in
               let x₁ = x.1 in
-              let r : test x.0 ≡ true = ap (meets i i F L) x.2 ∙ g in
-              (count test x.0, omega (arith, count_rank test x.0 k x₁ r), t.put x.0 x₁ r ∙ ap (λ (v : ℕ). get_or N v 0) x.2 ∙ sym (number_row j b));
+              let r : test x.0 ≡ true = ap (meets i i C) x.2 ∙ g in
+              (count test x.0, omega (arith, count_rank test x.0 S.many x₁ r), t.put x.0 x₁ r ∙ ap (λ (v : ℕ). get_or C.numbers v 0) x.2 ∙ sym (number_row j b));
           only = λ p h.
-              let x = count_nth test k p (omega arith) in
-              let j = get_or near x.0 0 in
-              let b : j < m = s.only x.0 x.1 in
-              (j, omega (arith, length_rows m N F L), uses_row i j b ∙ x.2, ap (λ (v : ℕ). get_or cells (at + v) 0) (sym x.3) ∙ t.put x.0 x.1 x.2 ∙ sym (number_row j b));
+              let x = count_nth test S.many p (omega arith) in
+              let j = get_or S.places x.0 0 in
+              let b : j < C.many = s.only x.0 x.1 in
+              (j, omega (arith, length_rows C), uses_row i j b ∙ x.2, ap (λ (v : ℕ). get_or cells (at + v) 0) (sym x.3) ∙ t.put x.0 x.1 x.2 ∙ sym (number_row j b));
         }
 
 -- the links before i are in the index, and cell `at` is the start of link i
@@ -174,31 +176,51 @@ index_from n cs before v after x =
       rest = x.rest ∙ drop-set-lt (cells_for n cs) before 0 v (omega (arith, starts_in n cs));
     }
 
--- THE LOOP OVER THE LINKS
-module _ (n m : ℕ) (N F L before : List ℕ) (room : cells_for n (rows m N F L) ≤ length before) where
-  -- a circuit on the line begins at link 1 or after it
-  pub first_pos : Lies n (rows m N F L) → (p : ℕ) → p < m → 1 ≤ get_or F p 0
-  unfolding circuit row
-  first_pos lies p h =
-      let e = ap (λ (c : Circuit). c.first) (rows_at m N F L p h) in
-      omega (arith, (lies p (omega (arith, length_rows m N F L))).0)
+-- THE LOOP OVER THE LINKS, in an index with room
+module _ (n : ℕ) (C : Columns) (index : List ℕ) (room : cells_for n (rows C) ≤ length index) where
+  -- its first start is stored
+  abbrev begun : List ℕ
+  begun = set index 0 (n + 1)
 
-  module _ (i at k : ℕ) (near cells : List ℕ) (pos : 1 ≤ i) (high : i ≤ n) (s : Near m F L i (near_to (i + 1)) k near) (f : Filled n (rows m N F L) before i at cells) where
+  -- and it has as much room
+  roomy : cells_for n (rows C) ≤ length begun
+  roomy = omega (arith, length-set index 0 (n + 1))
+
+  -- before link 1 no row is listed: a circuit on the line begins at link 1 or after it
+  pub loop_near : (S : Shortlist) → S.many ≡ 0 → Lies n (rows C) → Near C 1 (near_to 1) S
+  unfolding circuit row
+  loop_near S z lies =
+      near_none C S z
+      (λ p h. let e = ap (λ (c : Circuit). c.first) (rows_at C p h) in omega (arith, (lies p (omega (arith, length_rows C))).0))
+
+  -- and no link is in
+  pub loop_start : Filled n (rows C) begun 1 (n + 1) begun
+  loop_start = filled_start n (rows C) begun roomy (get_or-set_same index 0 (n + 1) 0 (omega (arith, starts_in n (rows C))))
+
+  -- past the last link all are
+  pub loop_done : (i at : ℕ) (cells : List ℕ) → i ≡ n + 1 → Filled n (rows C) begun i at cells → Index n (rows C) index cells
+  loop_done i at cells e f = index_from n (rows C) index (n + 1) cells (filled_done n (rows C) begun roomy i at cells e f)
+
+  module _ (i at : ℕ) (S : Shortlist) (cells : List ℕ) (pos : 1 ≤ i) (high : i ≤ n) (s : Near C i (near_to (i + 1)) S) (f : Filled n (rows C) begun i at cells) where
     -- the shortlist has as many as use the link
-    same_load : count (listed i F L near) k ≡ load (rows m N F L) i
-    same_load = near_load m N F L i (near_to (i + 1)) k near s i (omega arith) (near_reaches i pos)
+    same_load : count (listed i C S) S.many ≡ load (rows C) i
+    same_load = near_load C i (near_to (i + 1)) S s i (omega arith) (near_reaches i pos)
 
     -- there is room for them
-    pub link_room : at + count (listed i F L near) k ≤ length cells
-    link_room = omega (arith, same_load, f.next, f.long, start_in n (rows m N F L) i pos high)
+    pub link_room : at + count (listed i C S) S.many ≤ length cells
+    link_room = omega (arith, same_load, f.next, f.long, roomy, start_in n (rows C) i pos high)
 
-    module _ (end : ℕ) (cells' : List ℕ) (t : Stretched (listed i F L near) (number_in N near) k at cells end cells') where
-      -- they end within the index
-      pub link_end : end ≤ cells_for n (rows m N F L)
-      link_end = omega (arith, same_load, f.next, t.next, start_in n (rows m N F L) i pos high)
+    module _ (end : ℕ) (cells' : List ℕ) (t : Stretched (listed i C S) (number_in C S) S.many at cells end cells') where
+      -- they end within the index, at a place that a cell can hold
+      pub link_end : n ≤ 512 → end ≤ 1049089
+      link_end short = omega (arith, same_load, f.next, t.next, start_in n (rows C) i pos high, cells_few n (rows C) (omega (arith, length_rows C, C.few)) short)
+
+      -- there is a cell for the next start
+      pub link_cell : i < length cells'
+      link_cell = omega (arith, t.long, f.long, roomy, starts_in n (rows C))
 
       -- and then the link is in the index
-      pub link_turn : Rises m N → (v : ℕ) (cells'' : List ℕ) → v ≡ end → cells'' ≡ set cells' i v → Filled n (rows m N F L) before (i + 1) end cells''
+      pub link_turn : Rises C → (v : ℕ) (cells'' : List ℕ) → v ≡ end → cells'' ≡ set cells' i v → Filled n (rows C) begun (i + 1) end cells''
       link_turn rises v cells'' e u =
-          filled_turn n (rows m N F L) before room i at cells pos high f (listed i F L near) (number_in N near) k end cells' t same_load
-          (near_rides m N F L i (near_to (i + 1)) k near s i (omega arith) (near_reaches i pos) rises at cells end cells' t) v cells'' e u
+          filled_turn n (rows C) begun roomy i at cells pos high f (listed i C S) (number_in C S) S.many end cells' t same_load
+          (near_rides C i (near_to (i + 1)) S s i (omega arith) (near_reaches i pos) rises at cells end cells' t) v cells'' e u

@@ -2,7 +2,7 @@
 use Prim.Native.Nat.{ℕ, ◌+◌, ◌-◌, ◌*◌, ◌/◌, ◌%◌, ◌<◌}
 use mathlib.Core.Path.{◌≡◌, refl, ap, ◌∙◌, sym, subst}
 use mathlib.Core.Logic.{inl, inr}
-use mathlib.Core.Bool.{Bool, true, false, cond, not, ◌&&◌}
+use mathlib.Core.Bool.{cond, not, ◌&&◌}
 use mathlib.Core.List.{List, [], ◌∷◌, ◌++◌}
 use mathlib.Core.Option.{Option, none, some}
 use native.Mathlib.Omega.{arith}
@@ -18,21 +18,22 @@ use Rattle.method.specs.Line.{circuit, uses}
 use Rattle.method.proofs.Circuits.{circuit_in_lem}
 use Rattle.refusals.specs.Ends.{TellsEnd}
 use Rattle.refusals.specs.Given.{InOrder, NoneApplies}
-use Rattle.refusals.specs.Refusals.{Refusal, refused_with, refusal_in}
-use Rattle.refusals.specs.Table.{bad_ends, first_record, no_end, repeats, whenever, wherever, wrong_end}
-use Rattle.refusals.specs.declared.Verdict.{Verdict}
-use Rattle.refusals.specs.declared.Verdict.TheVariants.{Checked, Refused as Failed}
+use Rattle.refusals.specs.Refusals.{number_of, refusal_in}
+use Rattle.refusals.specs.declared.Refusal.{Refusal}
+use Rattle.refusals.specs.declared.Reason.{Reason}
+use Rattle.refusals.specs.declared.Reason.TheVariants.{PartRecord, TooManyCircuits, Links, NumberZero, WrongEnd, NumberTwice, NumberTaken, IndexRoom}
+use Rattle.refusals.specs.Table.{bad_ends, first_record, no_end, repeats, wherever, wrong_end}
+use Rattle.std.specs.Prelude.{Ok, Err}
 use Rattle.refusals.proofs.EndLaws.{EachGives, each_both, each_end, each_more, whole_tells}
 use Rattle.refusals.proofs.First.{verdict_given, verdict_passed, verdict_passes, verdict_refused}
-use Rattle.refusals.proofs.Pieces.{wherever_gives}
+use Rattle.refusals.proofs.Pieces.{whenever_gives, wherever_gives}
 use Rattle.two_files.specs.Rows.{has_old, later, two_file_rows, two_record_rows}
+use Rattle.two_files.proofs.LaterLaws.{later_gives}
 use Rattle.two_files.proofs.JoinLaws.{record_old, record_new}
 use Rattle.two_files.proofs.Told.{later_tells, two_records_tell}
 use Rattle.riders.specs.Index.{Riders, Index, cells_for}
-use Rattle.riders.specs.Outcome.{refusal_of, both_of, index_table, judged, answer_by, IfAccepted, Outcome}
+use Rattle.riders.specs.Outcome.{Answer, both_of, index_table, judged, answer_by, IfAccepted, Outcome}
 use Rattle.riders.specs.Seen.{RidersOf, Seen, TwoCalls, SameIndex}
-use Rattle.riders.specs.declared.Answer.{Answer}
-use Rattle.riders.specs.declared.Answer.TheVariants.{Indexed}
 use Rattle.riders.proofs.Accepting.{accepted, room, old_is_whole}
 use Rattle.riders.proofs.SameLaws.{rearranged_cells, rearranged_index}
 use Rattle.riders.proofs.RiderLaws.{index_pin, stretch_rides, index_is}
@@ -46,13 +47,13 @@ index_tells n old new has =
     let s = old ++ new in
     let P : Refusal → Type 0 = TellsEnd n (k + m) s in
     let whole = whole_tells n (k + m) s in
-    each_more P _ _ (whole 1 (not (eqb (length old % 8) 0)) (λ z. omega arith))
-    (each_more P _ _ (whole 1 (not (eqb (length new % 8) 0)) (λ z. omega arith))
-    (each_more P _ _ (whole 2 (ltb 2048 (k + m)) (λ z. omega arith))
-    (each_more P _ _ (whole 3 (not (leb 1 n && leb n 512)) (λ z. omega arith))
+    each_more P _ _ (whole PartRecord (not (eqb (length old % 8) 0)) (λ z. omega arith))
+    (each_more P _ _ (whole PartRecord (not (eqb (length new % 8) 0)) (λ z. omega arith))
+    (each_more P _ _ (whole TooManyCircuits (ltb 2048 (k + m)) (λ z. omega arith))
+    (each_more P _ _ (whole Links (not (leb 1 n && leb n 512)) (λ z. omega arith))
     (each_both P (two_record_rows n k m old new) _ (two_records_tell n k m old new)
-    (each_more P _ _ (later_tells n (k + m) s k 14 (first_record (has_old old k new) m) (λ z. omega arith))
-    (each_more P _ _ (whole 15 (ltb has (cells_for n (both_of old new))) (λ z. omega arith))
+    (each_more P _ _ (later_tells n (k + m) s k NumberTaken (first_record (has_old old k new) m) (λ z. omega arith))
+    (each_more P _ _ (whole IndexRoom (ltb has (cells_for n (both_of old new))) (λ z. omega arith))
     (each_end P)))))))
 
 -- BOTH FILES. The riders among the circuits of the joined file are those of either file
@@ -87,9 +88,9 @@ riders_both old new k m i xs ke me whole r =
     }
 
 -- ONE ANSWER. What holds where the files were accepted pins the buffer if each of its two cases does
-pin_both : (t : Verdict) (A B A' B' C : Type 0) → IfAccepted (refusal_in t) A B → IfAccepted (refusal_in t) A' B' → (A → A' → C) → (B → B' → C) → C
-pin_both (Checked x) A B A' B' C a b f g = f a b
-pin_both (Failed number place end) A B A' B' C a b f g = g a b
+pin_both : (t : Answer) (A B A' B' C : Type 0) → IfAccepted (refusal_in t) A B → IfAccepted (refusal_in t) A' B' → (A → A' → C) → (B → B' → C) → C
+pin_both (Ok x) A B A' B' C a b f g = f a b
+pin_both (Err r) A B A' B' C a b f g = g a b
 
 -- two answers that meet the contract of `index_riders` are equal, with every cell
 pub outcome_pins : (n : ℕ) (old new before after after' : List ℕ) (one two : Answer) → Outcome n old new before after one → Outcome n old new before after' two → (one ≡ two) × (after ≡ after')
@@ -100,25 +101,25 @@ outcome_pins n old new before after after' one two x y = (
 
 module _ (n : ℕ) (old new before after : List ℕ) (answer : Answer) (o : Outcome n old new before after answer) where
   -- a refusal is the verdict's, and changes nothing
-  refused_so : (r : Refusal) → refusal_of answer ≡ some r → (judged n old new before ≡ refused_with r) × (after ≡ before)
+  refused_so : (r : Refusal) → refusal_in answer ≡ some r → (judged n old new before ≡ Err r) × (after ≡ before)
   refused_so r e = go (judged n old new before) refl o.answered o.indexed
     where
-      go : (t : Verdict) → judged n old new before ≡ t → answer ≡ answer_by t (cells_for n (both_of old new)) → IfAccepted (refusal_in t) (Index n (both_of old new) before after) (after ≡ before)
-          → (judged n old new before ≡ refused_with r) × (after ≡ before)
-      go (Checked m) q a f = let z = sym (ap refusal_of a) ∙ e in absurd (let y : ◌≡◌ {A = ℕ} 0 1 = cc in omega arith)
-      go (Failed k p d) q a f = let z = sym (ap refusal_of a) ∙ e in (q ∙ (let y : Failed k p d ≡ refused_with r = cc in y), f)
+      go : (t : Answer) → judged n old new before ≡ t → answer ≡ answer_by t (cells_for n (both_of old new)) → IfAccepted (refusal_in t) (Index n (both_of old new) before after) (after ≡ before)
+          → (judged n old new before ≡ Err r) × (after ≡ before)
+      go (Ok m) q a f = let z = sym (ap refusal_in a) ∙ e in absurd (let y : ◌≡◌ {A = ℕ} 0 1 = cc in omega arith)
+      go (Err q) j a f = let z = sym (ap refusal_in a) ∙ e in (j ∙ (let y : ◌≡◌ {A = Answer} (Err q) (Err r) = cc in y), f)
 
   -- an index is there, and no row applies
-  indexed_so : (cells : ℕ) → answer ≡ Indexed cells → NoneApplies (index_table n old new (length before)) × (cells ≡ cells_for n (both_of old new)) × (Index n (both_of old new) before after)
+  indexed_so : (cells : ℕ) → answer ≡ Ok cells → NoneApplies (index_table n old new (length before)) × (cells ≡ cells_for n (both_of old new)) × (Index n (both_of old new) before after)
   unfolding judged
   indexed_so cells e = go (judged n old new before) refl o.answered o.indexed
     where
-      go : (t : Verdict) → judged n old new before ≡ t → answer ≡ answer_by t (cells_for n (both_of old new)) → IfAccepted (refusal_in t) (Index n (both_of old new) before after) (after ≡ before)
+      go : (t : Answer) → judged n old new before ≡ t → answer ≡ answer_by t (cells_for n (both_of old new)) → IfAccepted (refusal_in t) (Index n (both_of old new) before after) (after ≡ before)
           → NoneApplies (index_table n old new (length before)) × (cells ≡ cells_for n (both_of old new)) × (Index n (both_of old new) before after)
-      go (Checked m) q a f =
-          let z : Indexed (cells_for n (both_of old new)) ≡ Indexed cells = sym a ∙ e in
+      go (Ok m) q a f =
+          let z : Ok (cells_for n (both_of old new)) ≡ Ok cells = sym a ∙ e in
           ((verdict_passed (index_table n old new (length before)) (cells_for n (both_of old new)) m q).1, cc, f)
-      go (Failed k p d) q a f = let z = sym e ∙ a in absurd (let y : ◌≡◌ {A = ℕ} 0 1 = cc in omega arith)
+      go (Err r) q a f = let z = sym e ∙ a in absurd (let y : ◌≡◌ {A = ℕ} 0 1 = cc in omega arith)
 
   -- every call meets `Seen`
   pub seen : Seen n old new before after answer
@@ -128,8 +129,8 @@ module _ (n : ℕ) (old new before after : List ℕ) (answer : Answer) (o : Outc
       let cells = cells_for n (both_of old new) in
       record {
         as_tabled = λ r e. verdict_refused table cells r (refused_so r e).0;
-        whenever_tabled = λ r g. ap refusal_of (o.answered ∙ ap (λ (t : Verdict). answer_by t cells) (verdict_given table cells r g));
-        otherwise_indexed = λ f. o.answered ∙ ap (λ (t : Verdict). answer_by t cells) (verdict_passes table cells f);
+        whenever_tabled = λ r g. ap refusal_in (o.answered ∙ ap (λ (t : Answer). answer_by t cells) (verdict_given table cells r g));
+        otherwise_indexed = λ f. o.answered ∙ ap (λ (t : Answer). answer_by t cells) (verdict_passes table cells f);
         end_told = λ r e. (let g = verdict_refused table cells r (refused_so r e).0 in (index_tells n old new (length before)).at g.index r g.below g.here);
         unchanged = λ r e. (refused_so r e).1;
         riders = λ c e i h l.
@@ -147,8 +148,8 @@ module _ (n : ℕ) (old new before after : List ℕ) (answer : Answer) (o : Outc
 pub same_index : (n : ℕ) (old new before after old' new' before' after' : List ℕ) (cells cells' : ℕ) → TwoCalls n old new before after old' new' before' after' cells cells'
     → SameIndex after after' cells cells'
 same_index n old new before after old' new' before' after' cells cells' t =
-    let x = indexed_so n old new before after (Indexed cells) t.one cells refl in
-    let y = indexed_so n old' new' before' after' (Indexed cells') t.two cells' refl in
+    let x = indexed_so n old new before after (Ok cells) t.one cells refl in
+    let y = indexed_so n old' new' before' after' (Ok cells') t.two cells' refl in
     let cs = both_of old new in
     let ds = both_of old' new' in
     let e : cells_for n ds ≡ cells_for n cs = rearranged_cells cs ds t.same n in
@@ -198,11 +199,11 @@ exchanged old new wholeOld wholeNew =
         ))
 
 -- the order of the files does not matter
-pub files_exchanged : (n : ℕ) (old new before after before' after' : List ℕ) (cells cells' : ℕ) → Outcome n old new before after (Indexed cells) → Outcome n new old before' after' (Indexed cells')
+pub files_exchanged : (n : ℕ) (old new before after before' after' : List ℕ) (cells cells' : ℕ) → Outcome n old new before after (Ok cells) → Outcome n new old before' after' (Ok cells')
     → SameIndex after after' cells cells'
 files_exchanged n old new before after before' after' cells cells' one two =
-    let x = indexed_so n old new before after (Indexed cells) one cells refl in
-    let y = indexed_so n new old before' after' (Indexed cells') two cells' refl in
+    let x = indexed_so n old new before after (Ok cells) one cells refl in
+    let y = indexed_so n new old before' after' (Ok cells') two cells' refl in
     same_index n old new before after new old before' after' cells cells'
     (record { one = one; two = two; same = exchanged old new (old_is_whole n old new (length before) x.0) (old_is_whole n new old (length before') y.0) })
 
@@ -211,49 +212,39 @@ unmoved : (cs : List Circuit) → Rearranged cs cs
 unmoved cs = record { there = λ i. i; back = λ i. i; to = λ i h. (h, refl, refl); fro = λ i h. (h, refl, refl) }
 
 -- the index of two files is that of the joined one as a new file alone
-pub files_joined : (n : ℕ) (old new before after before' after' : List ℕ) (cells cells' : ℕ) → Outcome n old new before after (Indexed cells)
-    → Outcome n [] (old ++ new) before' after' (Indexed cells') → SameIndex after after' cells cells'
+pub files_joined : (n : ℕ) (old new before after before' after' : List ℕ) (cells cells' : ℕ) → Outcome n old new before after (Ok cells)
+    → Outcome n [] (old ++ new) before' after' (Ok cells') → SameIndex after after' cells cells'
 files_joined n old new before after before' after' cells cells' one two =
-    let x = indexed_so n old new before after (Indexed cells) one cells refl in
+    let x = indexed_so n old new before after (Ok cells) one cells refl in
     let whole = (accepted n old new (length before) x.0).whole in
     let many : length old / 8 + length new / 8 ≡ 0 / 8 + length (old ++ new) / 8 = omega arith in
     same_index n old new before after [] (old ++ new) before' after' cells cells'
     (record { one = one; two = two; same = subst (Rearranged (both_of old new)) (ap (λ (z : ℕ). circuits_in z (old ++ new)) many) (unmoved (both_of old new)) })
 
--- THE ORDER OF THE TESTS. A row that applies as a whole gives its number
-whole_gives : (x : ℕ) (b : Bool) (r : Refusal) → whenever x b ≡ some r → r.number ≡ x
-whole_gives x true r e = cc
-whole_gives x false r e = absurd (let z : ◌≡◌ {A = ℕ} 0 1 = cc in omega arith)
-
--- and so does a row of the new file
-later_gives : (k x : ℕ) (o : Option ℕ) (r : Refusal) → later k (wherever x no_end o) ≡ some r → r.number ≡ x
-later_gives k x (some place) r e = cc
-later_gives k x none r e = absurd (let z : ◌≡◌ {A = ℕ} 0 1 = cc in omega arith)
-
--- the tests stand in the order of R-2, with 15 after all others
+-- THE ORDER OF THE TESTS. They stand in the order of R-2, with 15 after all others
 pub index_in_order : (n : ℕ) (old new : List ℕ) (has : ℕ) → InOrder (1 ∷ 1 ∷ 2 ∷ 3 ∷ 5 ∷ 6 ∷ 7 ∷ 7 ∷ 14 ∷ 15 ∷ []) (index_table n old new has)
 unfolding index_table two_file_rows two_record_rows
 index_in_order n old new has =
     let k = length old / 8 in
     let m = length new / 8 in
     let s = old ++ new in
-    let six = wherever_gives 6 (λ i. wrong_end n (circuit_of (record_at s i))) (first_record (λ i. bad_ends n (circuit_of (record_at s i))) (k + m)) in (
-      whole_gives 1 (not (eqb (length old % 8) 0)),
+    let six = wherever_gives WrongEnd (λ i. wrong_end n (circuit_of (record_at s i))) (first_record (λ i. bad_ends n (circuit_of (record_at s i))) (k + m)) in (
+      whenever_gives PartRecord (not (eqb (length old % 8) 0)),
       (
-        whole_gives 1 (not (eqb (length new % 8) 0)),
+        whenever_gives PartRecord (not (eqb (length new % 8) 0)),
         (
-          whole_gives 2 (ltb 2048 (k + m)),
+          whenever_gives TooManyCircuits (ltb 2048 (k + m)),
           (
-            whole_gives 3 (not (leb 1 n && leb n 512)),
+            whenever_gives Links (not (leb 1 n && leb n 512)),
             (
-              wherever_gives 5 no_end (first_record (λ i. eqb (number_in s i) 0) (k + m)),
+              wherever_gives NumberZero no_end (first_record (λ i. eqb (number_in s i) 0) (k + m)),
               (
                 six,
                 (
-                  wherever_gives 7 no_end (first_record (repeats old) k),
+                  wherever_gives NumberTwice no_end (first_record (repeats old) k),
                   (
-                    later_gives k 7 (first_record (repeats new) m),
-                    (later_gives k 14 (first_record (has_old old k new) m), (whole_gives 15 (ltb has (cells_for n (both_of old new))), tt)),
+                    later_gives k NumberTwice (first_record (repeats new) m),
+                    (later_gives k NumberTaken (first_record (has_old old k new) m), (whenever_gives IndexRoom (ltb has (cells_for n (both_of old new))), tt)),
                   ),
                 ),
               ),

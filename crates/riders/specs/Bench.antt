@@ -1,11 +1,12 @@
 -- Bench cases of the index, of the question and of the tests. `proofs/Cases.antt` shows `riders_hold`, that each holds. What a reader must believe.
 -- Assumes nothing.
-use Rattle.std.specs.Prelude.{ℕ, ◌≡◌, List, [], ◌∷◌}
+use Rattle.std.specs.Prelude.{ℕ, ◌≡◌, List, [], ◌∷◌, Some, None, Result, Ok}
 use Rattle.records.specs.Records.{file_of}
-use Rattle.refusals.specs.Bench.{c}
+use Rattle.refusals.specs.Bench.{c, refused}
 use Rattle.refusals.specs.Table.{verdict}
-use Rattle.refusals.specs.declared.Verdict.{Verdict}
-use Rattle.refusals.specs.declared.Verdict.TheVariants.{Checked, Refused}
+use Rattle.refusals.specs.declared.Refusal.{Refusal}
+use Rattle.refusals.specs.declared.Reason.TheVariants.{PartRecord, Links, NumberZero, WrongEnd, NumberTwice, NumberTaken, IndexRoom}
+use Rattle.refusals.specs.declared.End.TheVariants.{LastPastLine}
 use Rattle.riders.specs.Index.{cells_for, riders_at}
 use Rattle.riders.specs.Outcome.{both_of, index_table}
 use Rattle.riders.specs.Computed.{index_of}
@@ -17,7 +18,7 @@ pub data Case : Type 0 where
   -- on n links the question for link i finds this stretch in a buffer
   asked : (n i : ℕ) → List ℕ → List ℕ → Case
   -- on n links the tests say this of two files and a buffer of so many cells
-  tests : ℕ → (old new : List ℕ) → ℕ → Verdict → Case
+  tests : ℕ → (old new : List ℕ) → ℕ → Result ℕ Refusal → Case
 
 -- a case holds
 abbrev pub Holds : Case → Type 0
@@ -78,18 +79,18 @@ questions =
 unfoldable pub refusals : List Case
 refusals =
     -- 11 numbers and 6 starts are 17 cells; one cell short is 15
-    tests 5 first_two other_two 17 (Checked 17) ∷
-    tests 5 first_two other_two 16 (Refused 15 0 0) ∷
+    tests 5 first_two other_two 17 (Ok 17) ∷
+    tests 5 first_two other_two 16 (refused IndexRoom 0 None) ∷
     -- no circuits: the n + 1 starts are asked still
-    tests 1 [] [] 2 (Checked 2) ∷
-    tests 1 [] [] 1 (Refused 15 0 0) ∷
+    tests 1 [] [] 2 (Ok 2) ∷
+    tests 1 [] [] 1 (refused IndexRoom 0 None) ∷
     -- 3 after 2 and before 5; 512 is the limit
-    tests 0 [] (file_of (c 0 1 1 ∷ [])) 0 (Refused 3 0 0) ∷
-    tests 513 [] [] 0 (Refused 3 0 0) ∷
+    tests 0 [] (file_of (c 0 1 1 ∷ [])) 0 (refused Links 0 None) ∷
+    tests 513 [] [] 0 (refused Links 0 None) ∷
     -- two files are tested as in R-2, and 15 after all others
-    tests 5 first_two (1 ∷ []) 0 (Refused 1 0 0) ∷
-    tests 5 (file_of (c 7 1 9 ∷ [])) (file_of (c 0 1 1 ∷ [])) 0 (Refused 5 2 0) ∷
-    tests 5 first_two (file_of (c 30 1 2 ∷ c 31 4 6 ∷ [])) 0 (Refused 6 4 3) ∷
-    tests 1 (file_of (c 4 1 1 ∷ [])) (file_of (c 5 1 1 ∷ c 5 1 1 ∷ [])) 0 (Refused 7 3 0) ∷
-    tests 5 first_two (file_of (c 30 1 2 ∷ c 20 4 5 ∷ [])) 0 (Refused 14 4 0) ∷
+    tests 5 first_two (1 ∷ []) 0 (refused PartRecord 0 None) ∷
+    tests 5 (file_of (c 7 1 9 ∷ [])) (file_of (c 0 1 1 ∷ [])) 0 (refused NumberZero 2 None) ∷
+    tests 5 first_two (file_of (c 30 1 2 ∷ c 31 4 6 ∷ [])) 0 (refused WrongEnd 4 (Some LastPastLine)) ∷
+    tests 1 (file_of (c 4 1 1 ∷ [])) (file_of (c 5 1 1 ∷ c 5 1 1 ∷ [])) 0 (refused NumberTwice 3 None) ∷
+    tests 5 first_two (file_of (c 30 1 2 ∷ c 20 4 5 ∷ [])) 0 (refused NumberTaken 4 None) ∷
     []

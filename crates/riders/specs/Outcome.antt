@@ -1,25 +1,19 @@
 -- What `index_riders` answers, and what the index buffer holds afterwards, for every input. What a reader must believe.
 -- Assumes nothing.
-use Rattle.std.specs.Prelude.{ℕ, ◌+◌, ◌/◌, ◌≡◌, List, [], ◌∷◌, ◌++◌, length, ltb}
+use Rattle.std.specs.Prelude.{ℕ, ◌+◌, ◌/◌, ◌≡◌, List, [], ◌∷◌, ◌++◌, length, ltb, Result, Ok, Err}
 use Rattle.std.proofs.Math.Option.{Option, none, some}
 use Rattle.records.specs.Records.{circuits_in}
 use Rattle.records.specs.declared.Circuit.{Circuit}
-use Rattle.refusals.specs.Refusals.{Refusal, refusal_in, if_refused}
+use Rattle.refusals.specs.Refusals.{refusal_in, if_refused}
 use Rattle.refusals.specs.Table.{Row, whenever, verdict, row3}
-use Rattle.refusals.specs.declared.Verdict.{Verdict}
+use Rattle.refusals.specs.declared.Refusal.{Refusal}
+use Rattle.refusals.specs.declared.Reason.TheVariants.{IndexRoom}
 use Rattle.two_files.specs.Rows.{row14, two_file_rows, two_record_rows}
 use Rattle.riders.specs.Index.{Index, cells_for}
-use Rattle.riders.specs.declared.Answer.{Answer}
-use Rattle.riders.specs.declared.Answer.TheVariants.{Indexed, Refused}
 
--- what an answer refuses: one definition takes each of its cases to a refusal, or none
-abbrev pub refusal_of : Answer → Option Refusal
-refusal_of (Indexed cells) = none
-refusal_of (Refused number place end) = some (record { number = number; place = place; end = end })
-
--- the answer that refuses so
-abbrev pub refused_as : Refusal → Answer
-refused_as r = Refused r.number r.place r.end
+-- what `index_riders` answers: how many cells the index has, or a refusal
+abbrev pub Answer : Type 0
+Answer = Result ℕ Refusal
 
 -- the circuits of both files: those of the old one, then those of the new one
 abbrev pub both_of : List ℕ → List ℕ → List Circuit
@@ -27,7 +21,7 @@ both_of old new = circuits_in (length old / 8 + length new / 8) (old ++ new)
 
 -- 15: index buffer with fewer cells than are needed
 abbrev pub row15 : ℕ → ℕ → Row
-row15 needed has = whenever 15 (ltb has needed)
+row15 needed has = whenever IndexRoom (ltb has needed)
 
 -- the tests of an index, for a line of n links, the bytes of both files, and the length of the index buffer: two files as R-2 tests them, then 15
 unfoldable pub index_table : ℕ → List ℕ → List ℕ → ℕ → List Row
@@ -38,12 +32,12 @@ index_table n old new has =
     ++ (row14 old (length old / 8) new (length new / 8) ∷ row15 (cells_for n (both_of old new)) has ∷ [])))
 
 -- the verdict of the tests: the first refusal that applies, or else how many cells the index has
-unfoldable pub judged : ℕ → List ℕ → List ℕ → List ℕ → Verdict
+unfoldable pub judged : ℕ → List ℕ → List ℕ → List ℕ → Result ℕ Refusal
 judged n old new before = verdict (index_table n old new (length before)) (cells_for n (both_of old new))
 
 -- indexed, with how many cells, or refused, as the table says
-abbrev pub answer_by : Verdict → ℕ → Answer
-answer_by v cells = if_refused (refusal_in v) refused_as (Indexed cells)
+abbrev pub answer_by : Result ℕ Refusal → ℕ → Answer
+answer_by v cells = if_refused (refusal_in v) Err (Ok cells)
 
 -- where the files were accepted one thing holds, and where they were refused another
 abbrev pub IfAccepted : Option Refusal → Type 0 → Type 0 → Type 0

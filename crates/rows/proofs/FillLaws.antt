@@ -1,8 +1,7 @@
 -- The work area before the first row and after the last. Assumes nothing.
-use Rattle.std.proofs.Common.{◌≡◌, ℕ, ◌+◌, ◌-◌, ◌*◌, ◌≤◌, List, ◌++◌, length, take, drop, replicate, sym, refl, ap, ◌∙◌, ap₂, ⊎_elim, append_assoc, arith, take-append-drop, take-take, drop-drop, take_at, drop_at, ne_eqb}
-use native.Mathlib.Nat.{sub-zero}
+use Rattle.std.proofs.Common.{◌≡◌, ℕ, ◌+◌, ◌-◌, ◌*◌, ◌≤◌, List, ◌++◌, length, take, drop, replicate, sym, ap, ◌∙◌, ap₂, length-append, length-drop, ⊎_elim, append_assoc, arith, take-append-drop, take-take, drop-drop, take_at, drop_at, ne_eqb}
 use lib.ListN.{length-replicate}
-use borrow.Rule.Slice.PartMut.{put_mid, mid_of, mid_len, same_len_mid}
+use lib.Seq.{length-take-le}
 use Rattle.basics.specs.Tools.{each}
 use Rattle.basics.proofs.Counts.{le_top}
 use Rattle.basics.proofs.Tables.{each_same, length_each, zeros_add}
@@ -13,8 +12,7 @@ use Rattle.records.specs.Bytes.{cells_of}
 use Rattle.records.specs.Records.{circuits_in}
 use Rattle.records.specs.declared.Circuit.{Circuit}
 use Rattle.records.proofs.Files.{length_circuits_in}
-use Rattle.records.proofs.Parts.{zeroed}
-use Rattle.records.proofs.PartCells.{cells_mid, cells_put}
+use Rattle.records.proofs.PartCells.{cells_append, cells_drop, cells_take}
 use Rattle.records.proofs.Encode.{cells_of_zeros}
 use Rattle.rows.specs.Accepted.{Accepted}
 use Rattle.records.specs.Area.{lasts_in, rows_in}
@@ -40,62 +38,56 @@ parts n m N R M S C p q r e =
     let b : drop (2 * n) C ≡ M ++ S = sym (ap (λ (z : ℕ). drop z C) k) ∙ sym (drop-drop n n C) ∙ ap (drop n) a ∙ drop_at R (M ++ S) n q in
     (ap (take n) e ∙ take_at N (R ++ (M ++ S)) n p, ap (take n) a ∙ take_at R (M ++ S) n q, ap (take m) b ∙ take_at M S m r)
 
--- after zeroing
-pub all_zero : (n m : ℕ) (b b' : List ℕ) → length b ≡ 4 * n + 4 * m → b' ≡ replicate (4 * n + 4 * m) 0 ++ drop (4 * n + 4 * m) b
-    → cells_of b' ≡ replicate n 0 ++ (replicate n 0 ++ (replicate m 0 ++ replicate m 0))
-all_zero n m b b' l e =
+-- all zeros
+pub zeros : (n m : ℕ) (b : List ℕ) → b ≡ replicate (4 * n + 4 * m) 0 → cells_of b ≡ replicate n 0 ++ (replicate n 0 ++ (replicate m 0 ++ replicate m 0))
+zeros n m b e =
     let k : 4 * n + 4 * m ≡ 2 * (n + (n + (m + m))) = omega arith in
-    ap cells_of (zeroed b' b (4 * n + 4 * m) l e ∙ ap (λ (z : ℕ). replicate {A = ℕ} z 0) k) ∙ cells_of_zeros (n + (n + (m + m)))
+    ap cells_of (e ∙ ap (λ (z : ℕ). replicate {A = ℕ} z 0) k) ∙ cells_of_zeros (n + (n + (m + m)))
     ∙ zeros_add n (n + (m + m)) ∙ ap (λ (z : List ℕ). replicate n 0 ++ z) (zeros_add n (m + m) ∙ ap (λ (z : List ℕ). replicate n 0 ++ z) (zeros_add m m))
 
 -- the part that is lent for the loads is zero
-pub part_zero : (n m : ℕ) (b : List ℕ) → cells_of b ≡ replicate n 0 ++ (replicate n 0 ++ (replicate m 0 ++ replicate m 0)) → cells_of (mid_of 0 (2 * n - 0) b) ≡ replicate n 0
-part_zero n m b e =
-    let L : 2 * n - 0 ≡ 2 * n = omega arith in
-    cells_mid 0 (2 * n - 0) 0 n b refl L ∙ ap (take n) e ∙ take_at (replicate n 0) _ n (length-replicate n 0)
+pub part_zero : (n m : ℕ) (b : List ℕ) → cells_of b ≡ replicate n 0 ++ (replicate n 0 ++ (replicate m 0 ++ replicate m 0)) → cells_of (take (2 * n) b) ≡ replicate n 0
+part_zero n m b e = cells_take n b ∙ ap (take n) e ∙ take_at (replicate n 0) _ n (length-replicate n 0)
 
 -- it is back
-pub counted : (n m w : ℕ) (cs : List Circuit) (b ys b' : List ℕ) → length b ≡ 4 * n + 4 * m → cells_of b ≡ replicate n 0 ++ (replicate n 0 ++ (replicate m 0 ++ replicate m 0))
-    → length ys ≡ length (mid_of 0 (2 * n - 0) b) → cells_of ys ≡ each (need w cs) 1 n → b' ≡ put_mid 0 (2 * n - 0) b ys → Counted n m w cs b'
-counted n m w cs b ys b' r e l q u =
-    let L : 2 * n - 0 ≡ 2 * n = omega arith in
-    let z : 0 + n ≡ n = omega arith in
+pub back : (n m w : ℕ) (cs : List Circuit) (b ys : List ℕ) → length b ≡ 4 * n + 4 * m → cells_of b ≡ replicate n 0 ++ (replicate n 0 ++ (replicate m 0 ++ replicate m 0))
+    → length ys ≡ 2 * n → cells_of ys ≡ each (need w cs) 1 n → Counted n m w cs (ys ++ drop (2 * n) b)
+back n m w cs b ys r e l q =
     let Z : List ℕ = replicate n 0 ++ (replicate m 0 ++ replicate m 0) in
     record {
-      long = ap length u ∙ same_len_mid 0 (2 * n - 0) b ys l ∙ r;
-      cells = ap cells_of u ∙ cells_put 0 (2 * n - 0) 0 n b ys refl L (omega arith) (l ∙ mid_len 0 (2 * n) b (omega arith))
-          ∙ ap₂ (λ (g : List ℕ) (h : List ℕ). g ++ h) q (ap (λ (k : ℕ). drop k (cells_of b)) z ∙ ap (drop n) e ∙ drop_at (replicate n 0) Z n (length-replicate n 0));
+      long = omega (arith, length-append ys (drop (2 * n) b), length-drop (2 * n) b);
+      cells = cells_append n ys (drop (2 * n) b) l ∙ ap₂ ◌++◌ q (cells_drop n b ∙ ap (drop n) e ∙ drop_at (replicate n 0) Z n (length-replicate n 0));
     }
 
 -- the part that is lent for the last red rows has its length
-pub front_long : (n m w : ℕ) (cs : List Circuit) (b : List ℕ) → Counted n m w cs b → length (mid_of 0 (4 * n - 0) b) ≡ 4 * n
-front_long n m w cs b y = mid_len 0 (4 * n) b (omega (arith, y.long)) ∙ sub-zero (4 * n)
+pub front_long : (n m w : ℕ) (cs : List Circuit) (b : List ℕ) → Counted n m w cs b → length (take (4 * n) b) ≡ 4 * n
+front_long n m w cs b y = length-take-le (4 * n) b (omega (arith, y.long))
 
 -- it starts with the c(i)
-front_needs : (n m w : ℕ) (cs : List Circuit) (b : List ℕ) → Counted n m w cs b → take n (cells_of (mid_of 0 (4 * n - 0) b)) ≡ each (need w cs) 1 n
+front_needs : (n m w : ℕ) (cs : List Circuit) (b : List ℕ) → Counted n m w cs b → take n (cells_of (take (4 * n) b)) ≡ each (need w cs) 1 n
 front_needs n m w cs b y =
-    let L : 4 * n - 0 ≡ 2 * (2 * n) = omega arith in
-    ap (take n) (cells_mid 0 (4 * n - 0) 0 (2 * n) b refl L) ∙ take-take n (2 * n) (cells_of b) (omega arith) ∙ ap (take n) y.cells
+    let k : 4 * n ≡ 2 * (2 * n) = omega arith in
+    ap (λ (z : ℕ). take n (cells_of (take z b))) k ∙ ap (take n) (cells_take (2 * n) b) ∙ take-take n (2 * n) (cells_of b) (omega arith) ∙ ap (take n) y.cells
     ∙ take_at (each (need w cs) 1 n) _ n (length_each (need w cs) 1 n)
 
 -- which are at most M
-pub front_low : (n m w top : ℕ) (cs : List Circuit) (b : List ℕ) → Counted n m w cs b → top ≡ most n w cs → Below top (take n (cells_of (mid_of 0 (4 * n - 0) b)))
+pub front_low : (n m w top : ℕ) (cs : List Circuit) (b : List ℕ) → Counted n m w cs b → top ≡ most n w cs → Below top (take n (cells_of (take (4 * n) b)))
 unfolding Below most
 front_low n m w top cs b y e x =
     let z = ap (λ (l : List ℕ). at l x) (front_needs n m w cs b y) in
     ⊎_elim (λ t. let t₂ = t.2 in omega (arith, le_top (need w cs) n x t.0 t.1)) (λ t. omega arith) (at_each_cases (need w cs) n x)
 
 -- when that part is back too: the sheet before the first row
-pub ready : (n m w top : ℕ) (cs : List Circuit) (b ys b' : List ℕ) → m ≡ length cs → Counted n m w cs b → top ≡ most n w cs → top * w ≤ 2127 → length ys ≡ length (mid_of 0 (4 * n - 0) b)
-    → take n (cells_of ys) ≡ take n (cells_of (mid_of 0 (4 * n - 0) b)) → drop n (cells_of ys) ≡ each (red_at top w (cells_of (mid_of 0 (4 * n - 0) b))) 1 n → b' ≡ put_mid 0 (4 * n - 0) b ys
-    → (length b' ≡ 4 * n + 4 * m) × Sheeted n m w 0 cs (cells_of b')
+pub ready : (n m w top : ℕ) (cs : List Circuit) (b ys : List ℕ) → m ≡ length cs → Counted n m w cs b → top ≡ most n w cs → top * w ≤ 2127 → length ys ≡ 4 * n
+    → take n (cells_of ys) ≡ take n (cells_of (take (4 * n) b)) → drop n (cells_of ys) ≡ each (red_at top w (cells_of (take (4 * n) b))) 1 n
+    → (length (ys ++ drop (4 * n) b) ≡ 4 * n + 4 * m) × Sheeted n m w 0 cs (cells_of (ys ++ drop (4 * n) b))
 unfolding sheet red_to
-ready n m w top cs b ys b' p y q few l t d u =
-    let L : 4 * n - 0 ≡ 2 * (2 * n) = omega arith in
-    let z : 0 + 2 * n ≡ 2 * n = omega arith in
+ready n m w top cs b ys p y q few l t d =
     let k : n + n ≡ 2 * n = omega arith in
+    let k₂ : 4 * n ≡ 2 * (2 * n) = omega arith in
+    let b' : List ℕ = ys ++ drop (4 * n) b in
     let C : List ℕ = cells_of b in
-    let F : List ℕ = cells_of (mid_of 0 (4 * n - 0) b) in
+    let F : List ℕ = cells_of (take (4 * n) b) in
     let N : List ℕ = each (need w cs) 1 n in
     let R : List ℕ = each (red_to n w cs) 1 n in
     let M : List ℕ = replicate m 0 in
@@ -107,12 +99,12 @@ ready n m w top cs b ys b' p y q few l t d u =
     sym (ap (λ (v : ℕ). drop v C) k) ∙ sym (drop-drop n n C) ∙ ap (λ (v : List ℕ). drop n (drop n v)) y.cells ∙ ap (drop n) (drop_at N (replicate n 0 ++ (M ++ M)) n (length_each (need w cs) 1 n))
     ∙ drop_at (replicate n 0) (M ++ M) n (length-replicate n 0) in
     let e : cells_of b' ≡ N ++ (R ++ (M ++ M)) =
-    ap cells_of u ∙ cells_put 0 (4 * n - 0) 0 (2 * n) b ys refl L (omega arith) (l ∙ mid_len 0 (4 * n) b (omega (arith, y.long)))
-    ∙ ap₂ ◌++◌ (sym (take-append-drop n (cells_of ys)) ∙ ap₂ ◌++◌ (t ∙ g) x) (ap (λ (v : ℕ). drop v C) z ∙ f) ∙ append_assoc N R (M ++ M) in
+    cells_append (2 * n) ys (drop (4 * n) b) (omega arith)
+    ∙ ap₂ ◌++◌ (sym (take-append-drop n (cells_of ys)) ∙ ap₂ ◌++◌ (t ∙ g) x) (ap (λ (v : ℕ). cells_of (drop v b)) k₂ ∙ cells_drop (2 * n) b ∙ f) ∙ append_assoc N R (M ++ M) in
     let h = parts n m N R M M (cells_of b') (length_each (need w cs) 1 n) (length_each (red_to n w cs) 1 n) (length-replicate m 0) e in
     let v : (i : ℕ) → 1 ≤ i → i ≤ n → at (lasts_in n (cells_of b')) i ≡ red_to n w cs i = λ i a o. ap (λ (s : List ℕ). at s i) h.1 ∙ at_each (red_to n w cs) n i a o in
     let low : (i : ℕ) → red_to n w cs i ≤ 2127 = λ i. red_low (most n w cs) w (need w cs i) 2127 (omega (arith, ap (λ (o : ℕ). o * w) q)) in (
-      ap length u ∙ same_len_mid 0 (4 * n - 0) b ys l ∙ y.long,
+      omega (arith, length-append ys (drop (4 * n) b), length-drop (4 * n) b, y.long),
       record {
         needs = h.0;
         rows = h.2 ∙ ap (λ (o : ℕ). replicate o 0) p;

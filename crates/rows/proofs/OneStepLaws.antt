@@ -1,5 +1,5 @@
 -- What `one_step` finds and leaves. Assumes nothing.
-use Rattle.std.proofs.Common.{◌≡◌, ℕ, ◌+◌, ◌-◌, ◌*◌, ◌<◌, ◌≤◌, eqb, List, take, sym, ap, ◌∙◌, subst, arith}
+use Rattle.std.proofs.Common.{◌≡◌, ℕ, ◌+◌, ◌-◌, ◌*◌, ◌<◌, ◌≤◌, eqb, List, Option, None, Some, take, refl, sym, ap, ◌∙◌, subst, arith}
 use borrow.Rule.Slice.PartMut.{mid_of}
 use Rattle.basics.specs.Tools.{seek}
 use Rattle.method.specs.Sheet.{at, open', run_from, step}
@@ -14,7 +14,7 @@ use Rattle.records.specs.Area.{lasts_in, rows_in}
 use Rattle.rows.specs.inner.Area.{state_in, Shows, Placed}
 use Rattle.rows.specs.inner.Desk.{Desk, Waiting}
 use Rattle.rows.specs.inner.Choice.{fits_at}
-use Rattle.rows.specs.inner.Colours.{blue_row, shown, plain, LastsMoved, AtRun, Around, painted}
+use Rattle.rows.specs.inner.Colours.{blue_row, shown, LinkTold, plain, LastsMoved, AtRun, Around, painted}
 use Rattle.rows.specs.declared.colours.Run.{Run}
 use Rattle.rows.proofs.FitLaws.{chosen_there, waits_there, chosen_nobody}
 use Rattle.rows.proofs.AreaLaws.{lent_lasts}
@@ -35,6 +35,15 @@ pub next_lent : (n k l r : ℕ) (D b : List ℕ) → l ≤ n → l ≡ run_from 
     → r ≡ seek (λ x. eqb (at (shown n k (cells_of (mid_of (2 * n) (4 * n - 2 * n) b))) x) open') l (n + 1 - l) → r ≡ run_from n (shown n k (lasts_in n (cells_of b)))
 next_lent n k l r D b h e y q =
     next_from n k l r D (lasts_in n (cells_of b)) h e y (q ∙ ap (λ (X : List ℕ). seek (λ x. eqb (at (shown n k X) x) open') l (n + 1 - l)) (lent_lasts n b))
+
+-- what is told where a link was sought
+pub told_link : (n x l : ℕ) (told : Option ℕ) → LinkTold n x told → told ≡ Some l → (l ≡ x) × (l ≤ n)
+told_link n x l told h e = subst (LinkTold n x) e h
+
+-- and where none is told
+pub told_none : (n x : ℕ) (told : Option ℕ) → LinkTold n x told → ((l : ℕ) → told ≡ Some l → ⊥) → n < x
+told_none n x None h f = h
+told_none n x (Some l) h f = absurd (f l refl)
 
 module _ (n m k l : ℕ) (s work list : List ℕ) (q : Queue) (run : Run) (desk : Desk n m s work list)
     (row : AtRun n k l (lasts_in n (cells_of work)))

@@ -1,6 +1,7 @@
 -- What the last rows of the links show: which links are open, which are blue. Assumes nothing.
-use Rattle.std.proofs.Common.{◌≡◌, ℕ, zero, suc, ◌+◌, ◌-◌, ◌*◌, ◌<◌, ◌≤◌, Bool, true, not, ◌&&◌, eqb, ltb, leb, ◌≢◌, List, length, get_or, sym, ap, ◌∙◌, ap₂, arith, le-ltb, lt-ltb, eq-eqb, ne_eqb, eqb-true, le-leb}
+use Rattle.std.proofs.Common.{◌≡◌, ℕ, zero, suc, ◌+◌, ◌-◌, ◌*◌, ◌<◌, ◌≤◌, Bool, true, not, ◌&&◌, eqb, ltb, leb, ◌≢◌, List, length, get_or, Option, subst, sym, ap, ◌∙◌, ap₂, arith, le-ltb, lt-ltb, eq-eqb, ne_eqb, eqb-true, le-leb}
 use borrow.Author.Tests.{eqb-false, lt-leb, not-true, not-false}
+use Rattle.std.specs.Bool.{then_some}
 use Rattle.basics.specs.Tools.{seek}
 use Rattle.basics.proofs.Bools.{by_eq, by_le}
 use Rattle.basics.proofs.Searches.{seek_ge, seek_hit, seek_le, seek_miss, seek_shift}
@@ -11,7 +12,7 @@ use Rattle.records.specs.Bytes.{cell, cells_of}
 use Rattle.records.proofs.Encode.{cells_fit}
 use Rattle.scans.specs.Scans.{within, cell_within}
 use Rattle.scans.specs.declared.Bounds.{Bounds}
-use Rattle.rows.specs.inner.Colours.{blue_row, shown_as, shown, BlueTo, Around}
+use Rattle.rows.specs.inner.Colours.{blue_row, shown_as, shown, LinkTold, BlueTo, Around}
 use Rattle.rows.proofs.Written.{at_past, read}
 
 -- the colour of a link, by its last row
@@ -86,6 +87,16 @@ open_sought n k start r C pos l u e =
     ∙ sym (ap (λ (c : ℕ). eqb c open') (shown_at n k C x a b) ∙ shown_opens k (at C x)))
     e
 
+-- and what is told of it
+pub open_told : (n k start r : ℕ) (C : List ℕ) (told : Option ℕ) → 1 ≤ k → 1 ≤ start → start ≤ n + 1
+    → r ≡ seek (cell_within (record { low = 0; high = k - 1 }) C) (start - 1) (n - (start - 1)) → told ≡ then_some (ltb r n) (r + 1)
+    → LinkTold n (seek (λ x. eqb (at (shown n k C) x) open') start (n + 1 - start)) told
+open_told n k start r C told pos l u e t =
+    let y = open_sought n k start r C pos l u e in
+    by_le n r
+    (λ h. subst (LinkTold n _) (sym (t ∙ ap (λ (b : Bool). then_some b (r + 1)) (le-ltb r n h))) (omega arith))
+    (λ h. subst (LinkTold n _) (sym (t ∙ ap (λ (b : Bool). then_some b (r + 1)) (lt-ltb r n h))) (y, omega arith))
+
 -- whether link x has another colour
 abbrev is_not : List ℕ → ℕ → ℕ → Bool
 is_not K colour x = not (eqb (at K x) colour)
@@ -153,19 +164,17 @@ around n l past low high K len h e q b r =
           (λ g. omega (arith, at_past K high (omega arith)));
     }
 
--- THE BLUE LINKS ON THE LEFT. What is read as cell i - 2 is the last row of the link before link i
-before : (n i v : ℕ) (b : List ℕ) → 1 < i → i ≤ n → length b ≡ 2 * n → v ≡ cell b (i - 2) → v ≡ at (cells_of b) (i - 1)
-before n i v b h l r e =
-    let k : i - 2 ≡ i - 1 - 1 = omega arith in
-    read b (i - 1) v (omega arith) (omega arith) (e ∙ ap (cell b) k)
+-- THE BLUE LINKS ON THE LEFT. What is read as cell i - 1 - 1 is the last row of the link before link i
+before : (n i v : ℕ) (b : List ℕ) → 1 < i → i ≤ n → length b ≡ 2 * n → v ≡ cell b (i - 1 - 1) → v ≡ at (cells_of b) (i - 1)
+before n i v b h l r e = read b (i - 1) v (omega arith) (omega arith) e
 
 -- it tells that this link is blue
-pub before_blue : (n k i v : ℕ) (b : List ℕ) → 1 < i → i ≤ n → length b ≡ 2 * n → k < 65535 → v ≡ cell b (i - 2) → v ≡ blue_row → at (shown n k (cells_of b)) (i - 1) ≡ blue
+pub before_blue : (n k i v : ℕ) (b : List ℕ) → 1 < i → i ≤ n → length b ≡ 2 * n → k < 65535 → v ≡ cell b (i - 1 - 1) → v ≡ blue_row → at (shown n k (cells_of b)) (i - 1) ≡ blue
 before_blue n k i v b h l r low e z =
     shown_at n k (cells_of b) (i - 1) (omega arith) (omega arith) ∙ shown_blue k (at (cells_of b) (i - 1)) low (sym (before n i v b h l r e) ∙ z)
 
 -- or that it is not
-pub before_not : (n k i v : ℕ) (b : List ℕ) → 1 < i → i ≤ n → length b ≡ 2 * n → k < 65535 → v ≡ cell b (i - 2) → v ≢ blue_row → at (shown n k (cells_of b)) (i - 1) ≢ blue
+pub before_not : (n k i v : ℕ) (b : List ℕ) → 1 < i → i ≤ n → length b ≡ 2 * n → k < 65535 → v ≡ cell b (i - 1 - 1) → v ≢ blue_row → at (shown n k (cells_of b)) (i - 1) ≢ blue
 before_not n k i v b h l r low e z q =
     z (before n i v b h l r e
     ∙ eqb-true (at (cells_of b) (i - 1)) blue_row (sym (shown_blues k (at (cells_of b) (i - 1)) low) ∙ eq-eqb (shown_as k (at (cells_of b) (i - 1))) blue (sym (shown_at n k (cells_of b) (i - 1) (omega arith) (omega arith)) ∙ q)))

@@ -62,6 +62,12 @@ written_turn f start i v C₀ C C' y e q pos h =
       late = λ x a. at_set_other C i x v (omega arith) (omega arith) ∙ y.late x (omega arith);
     })
 
+-- one link more, by its place
+pub written_next : (f : ℕ → ℕ) (i v : ℕ) (C₀ C C' : List ℕ) → Written f 1 (i + 1) C₀ C → C' ≡ set C i v → v ≡ f (i + 1) → i < length C₀ → Written f 1 (i + 1 + 1) C₀ C'
+written_next f i v C₀ C C' y e q h =
+    let k : i ≡ i + 1 - 1 = omega arith in
+    written_turn f 1 (i + 1) v C₀ C C' y (e ∙ ap (λ (j : ℕ). set C j v) k) q (omega arith) (omega arith)
+
 -- all links are written
 pub written_all : (f : ℕ → ℕ) (n i : ℕ) (C₀ C : List ℕ) → Written f 1 i C₀ C → length C₀ ≡ n → n < i → C ≡ each f 1 n
 written_all f n i C₀ C y l h = links_are n C f (y.long ∙ l) (λ x a b. y.done x a (omega arith))
@@ -69,3 +75,9 @@ written_all f n i C₀ C y l h = links_are n C f (y.long ∙ l) (λ x a b. y.don
 -- what is read as cell i - 1 is the cell of link i
 pub read : (b : List ℕ) (i v : ℕ) → 1 ≤ i → 2 * (i - 1) + 1 < length b → v ≡ cell b (i - 1) → v ≡ at (cells_of b) i
 read b i v l h e = e ∙ cell_is b (i - 1) h ∙ at_get (cells_of b) i l
+
+-- what is read as cell i, which is that of link i + 1, and was not yet written
+pub read_next : (f : ℕ → ℕ) (b : List ℕ) (i v : ℕ) (C₀ : List ℕ) → Written f 1 (i + 1) C₀ (cells_of b) → 2 * i + 1 < length b → v ≡ cell b i → v ≡ at C₀ (i + 1)
+read_next f b i v C₀ y l e =
+    let k : i ≡ i + 1 - 1 = omega arith in
+    read b (i + 1) v (omega arith) (omega arith) (e ∙ ap (cell b) k) ∙ y.late (i + 1) (omega arith)

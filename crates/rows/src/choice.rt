@@ -1,4 +1,5 @@
 // The waiting circuit of lowest number that fits.
+// What is told where none fits is the end, as in `seek`, since the clause of a step is stated over it.
 ghost use Rattle.std.specs.Prelude.{◌≡◌, ◌<◌, ◌≤◌};
 ghost use Rattle.records.specs.Bytes.{cells_of};
 ghost use Rattle.queue.specs.Queued.{InList, first_place};

@@ -1,18 +1,19 @@
 // The colours of a row, from the last row of each link: in which it was taken or is red for the last time, or BLUE. So a new row repaints nothing.
 // Here the cells are those of n links: link x has cell x - 1.
+// Cells stand in lent bytes, so loops go over their places.
 ghost use Rattle.std.specs.Prelude.{◌≡◌, ◌+◌, ◌-◌, ◌*◌, ◌<◌, ◌≤◌, length, nat_eq};
 ghost use Rattle.basics.specs.Tools.{seek};
 ghost use Rattle.method.specs.Sheet.{at, open'};
 ghost use Rattle.records.specs.Bytes.{cells_of};
-ghost use Rattle.rows.specs.inner.Colours.{shown, AtRun, BlueTo, Around, painted};
+ghost use Rattle.rows.specs.inner.Colours.{shown, LinkTold, AtRun, BlueTo, Around, painted};
 
 use scans::Bounds;
 
 // The last row of a blue link.
-pub const BLUE: u16 = 65535;
+pub const BLUE: u16 = u16::MAX;
 
 // A run of open links, from `from` to before `past`, and its reach over the blue links beside it, from `low` to before `high`.
-#[derive(Clone, Copy)]
+#[derive(Clone, Copy, Debug, PartialEq, Eq)]
 pub struct Run {
     pub from: usize,
     pub past: usize,
@@ -20,16 +21,17 @@ pub struct Run {
     pub high: usize,
 }
 
-// The first link from `start` on that is open in row k, or n + 1.
-pub fn first_open(lasts: &[u8], n: usize, k: u16, start: usize) -> usize
+// The first link from `start` on that is open in row k.
+pub fn first_open(lasts: &[u8], n: usize, k: u16, start: usize) -> Option<usize>
     requires { (length lasts.now ≡ 2 * n) × (n ≤ 512) × (1 ≤ k) × (1 ≤ start) × (start ≤ n + 1) }
-    ensures { result ≡ seek (λ x. nat_eq (at (shown n k (cells_of lasts.now)) x) open') start (n + 1 - start) }
+    ensures { LinkTold n (seek (λ x. nat_eq (at (shown n k (cells_of lasts.now)) x) open') start (n + 1 - start)) result }
 {
     let over = Bounds {
         low: 0,
         high: k - 1,
     };
-    scans::first_within(lasts, start - 1, n, over) + 1
+    let cell = scans::first_within(lasts, start - 1, n, over);
+    (cell < n).then_some(cell + 1)
 }
 
 // The first link such that it and all links from it to before `stop` are blue.
@@ -37,15 +39,12 @@ fn blue_to(lasts: &[u8], n: usize, k: u16, stop: usize) -> usize
     requires { (length lasts.now ≡ 2 * n) × (n ≤ 512) × (k < 65535) × (1 ≤ stop) × (stop ≤ n) }
     ensures { BlueTo (shown n k (cells_of lasts.now)) stop result }
 {
-    let mut i = stop;
-    while 1 < i {
-        let v = records::cells::get(lasts, i - 2);
-        if v != BLUE {
-            return i;
+    for i in (1..stop).rev() {
+        if records::cells::get(lasts, i - 1) != BLUE {
+            return i + 1;
         }
-        i -= 1;
     }
-    i
+    1
 }
 
 // The run of row k that starts at l, the first open link.

@@ -14,7 +14,7 @@ ghost use Rattle.rows.specs.Accepted.{Accepted};
 ghost use Rattle.rows.specs.Filled.{Filled};
 ghost use Rattle.rows.specs.inner.Sheeted.{Prepared};
 
-use crate::sheet::Size;
+use crate::sheet::File;
 
 // Everything is zeroed, c(i) of each link is counted, and its last red row follows; M is handed back.
 fn prepare(n: usize, m: usize, w: usize, circuits: &[u8], work: &mut [u8]) -> usize
@@ -22,12 +22,9 @@ fn prepare(n: usize, m: usize, w: usize, circuits: &[u8], work: &mut [u8]) -> us
     requires work_len { length work.old ≡ 4 * n + 4 * m }
     ensures { Prepared n m w circuits.now work.new result }
 {
-    let k = 4 * n + 4 * m;
-    records::cells::zero(work, k);
-    let a = 2 * n;
-    let e = 4 * n;
-    let most = records::numbers::index(loads::count_needs(circuits, m, &mut work[0..a], n, w));
-    loads::last_reds(&mut work[0..e], n, w, most);
+    work.fill(0);
+    let most = usize::from(loads::count_needs(circuits, m, &mut work[..2 * n], n, w));
+    loads::last_reds(&mut work[..4 * n], n, w, most);
     most
 }
 
@@ -45,10 +42,11 @@ pub fn fill_sheet(
     ensures { (result ≡ most n w (circuits_in m circuits.now)) × Filled n w m circuits.now work.new × (length list.new ≡ 8 * m) }
 {
     let most = prepare(n, m, w, circuits, work);
-    let size = Size {
+    let file = File {
         links: n,
-        circuits: m,
+        many: m,
+        circuits,
     };
-    sheet::all_rows(size, w, most, circuits, work, list);
+    sheet::all_rows(file, w, most, work, list);
     most
 }

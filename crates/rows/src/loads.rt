@@ -1,29 +1,26 @@
 // The load of each link, and c(i), in the first n cells of the work area: link i has cell i - 1.
-ghost use Rattle.std.specs.Prelude.{◌≡◌, ◌+◌, ◌*◌, ◌<◌, ◌≤◌, max, length, take};
+// Records and cells stand in lent bytes, so loops go over their places.
+ghost use Rattle.std.specs.Prelude.{◌≡◌, ◌+◌, ◌*◌, ◌<◌, ◌≤◌, length, take};
 ghost use Rattle.basics.specs.Tools.{each};
 ghost use Rattle.method.specs.Sheet.{load};
 ghost use Rattle.records.specs.Bytes.{cells_of};
 ghost use Rattle.records.specs.Records.{circuits_in};
 ghost use Rattle.rows.specs.Accepted.{OnLine, Accepted};
-ghost use Rattle.rows.specs.inner.Loads.{wrapped, mark_up, mark_down, mark_to, sum_to, Below, rounded, RoundedAll, NeedsCounted, Zeroed, RedsWritten};
+ghost use Rattle.rows.specs.inner.Loads.{mark_up, mark_down, mark_to, sum_to, Below, rounded, RoundedAll, NeedsCounted, Zeroed, RedsWritten};
 
-// One less; on zero it wraps around on purpose, and the running sum brings it back.
-fn one_down(v: u16) -> u16
-    ensures { result ≡ wrapped (v + 65535) }
-{
-    std::num::wrapping_sub_u16(v, 1)
-}
+use records::Circuit;
 
 // A circuit's two marks: one up at its first link, and one down just past its last, unless that is past the line, where no cell is.
+// A mark below zero wraps around on purpose, and the running sum brings it back.
 fn mark_circuit(cells: &mut [u8], n: usize, first: usize, past: usize)
     requires { (length cells.old ≡ 2 * n) × (1 ≤ first) × (first < past) × (past ≤ n + 1) × (n ≤ 512) }
     ensures { cells_of cells.new ≡ mark_down past (mark_up first (cells_of cells.old)) }
 {
     let v = records::cells::get(cells, first - 1);
-    records::cells::put(cells, first - 1, std::num::wrapping_add_u16(v, 1));
+    records::cells::put(cells, first - 1, v.wrapping_add(1));
     if past <= n {
         let u = records::cells::get(cells, past - 1);
-        records::cells::put(cells, past - 1, one_down(u));
+        records::cells::put(cells, past - 1, u.wrapping_sub(1));
     }
 }
 
@@ -33,13 +30,8 @@ fn mark_ends(circuits: &[u8], m: usize, cells: &mut [u8], n: usize)
     ensures { cells_of cells.new ≡ each (mark_to (circuits_in m circuits.now) m) 1 n }
 {
     for j in 0..m {
-        let c = records::circuit_at(circuits, j);
-        mark_circuit(
-            cells,
-            n,
-            records::numbers::index(c.first),
-            records::numbers::index(c.last) + 1,
-        );
+        let c = records::record_at::<Circuit>(circuits, j);
+        mark_circuit(cells, n, usize::from(c.first), usize::from(c.last) + 1);
     }
 }
 
@@ -49,11 +41,10 @@ fn running_sum(cells: &mut [u8], n: usize)
     ensures { cells_of cells.new ≡ each (sum_to (cells_of cells.old)) 1 n }
 {
     let mut sum: u16 = 0;
-    let e = n + 1;
-    for i in 1..e {
-        let v = records::cells::get(cells, i - 1);
-        sum = std::num::wrapping_add_u16(sum, v);
-        records::cells::put(cells, i - 1, sum);
+    for i in 0..n {
+        let v = records::cells::get(cells, i);
+        sum = sum.wrapping_add(v);
+        records::cells::put(cells, i, sum);
     }
 }
 
@@ -71,15 +62,7 @@ fn needed(load: u16, w: usize) -> u16
     requires { (1 ≤ w) × (w ≤ 80) × (load ≤ 2048) }
     ensures { result ≡ rounded w load }
 {
-    let c = (records::numbers::index(load) + (w - 1)) / w;
-    c as u16
-}
-
-// The larger of two cells.
-fn larger(a: u16, b: u16) -> u16
-    ensures { result ≡ max b a }
-{
-    if a < b { b } else { a }
+    usize::from(load).div_ceil(w) as u16
 }
 
 // Each load becomes c(i); the largest is handed back.
@@ -88,12 +71,11 @@ fn loads_to_needs(cells: &mut [u8], n: usize, w: usize) -> u16
     ensures { RoundedAll n w (cells_of cells.old) (cells_of cells.new) result }
 {
     let mut most: u16 = 0;
-    let e = n + 1;
-    for i in 1..e {
-        let v = records::cells::get(cells, i - 1);
+    for i in 0..n {
+        let v = records::cells::get(cells, i);
         let c = needed(v, w);
-        records::cells::put(cells, i - 1, c);
-        most = larger(most, c);
+        records::cells::put(cells, i, c);
+        most = c.max(most);
     }
     most
 }
@@ -114,7 +96,7 @@ pub fn last_reds(cells: &mut [u8], n: usize, w: usize, most: usize)
 {
     for i in 0..n {
         let c = records::cells::get(cells, i);
-        let r = (most - records::numbers::index(c)) * w;
+        let r = (most - usize::from(c)) * w;
         records::cells::put(cells, n + i, r as u16);
     }
 }

@@ -1,5 +1,6 @@
 // The sheet, row by row, in the whole work area, with the queue of waiting circuits in the list.
-ghost use Rattle.std.specs.Prelude.{◌≡◌, ◌*◌, ◌<◌, ◌≤◌, min, max};
+// The lent areas go one by one: a struct that holds them by reference makes clauses say `.entry.` of each field.
+ghost use Rattle.std.specs.Prelude.{◌≡◌, ◌*◌, ◌<◌, ◌≤◌};
 ghost use Rattle.method.specs.Sheet.{most};
 ghost use Rattle.records.specs.Area.{lasts_in};
 ghost use Rattle.records.specs.Bytes.{cells_of};
@@ -13,120 +14,86 @@ ghost use Rattle.rows.specs.inner.Sheeted.{DeskAfter};
 use crate::colours::Run;
 use crate::{choice, colours};
 use queue::Queue;
+use records::Circuit;
 
-// How many links and circuits there are; they travel together.
-#[derive(Clone, Copy)]
-pub struct Size {
+// The file that is planned: how many links its line has, how many circuits there are, and their records.
+#[derive(Clone, Copy, Debug, PartialEq, Eq)]
+pub struct File<'a> {
     pub links: usize,
-    pub circuits: usize,
-}
-
-// The later of two links.
-fn later(a: usize, b: usize) -> usize
-    ensures { result ≡ max a b }
-{
-    if a < b { b } else { a }
-}
-
-// The sooner of two links.
-fn sooner(a: usize, b: usize) -> usize
-    ensures { result ≡ min a b }
-{
-    if a < b { a } else { b }
+    pub many: usize,
+    pub circuits: &'a [u8],
 }
 
 // The links from `start` to before `past` get this last row.
-fn paint_links(size: Size, start: usize, past: usize, v: u16, work: &mut [u8])
-    requires { Paintable size.links size.circuits start past work.old }
-    ensures { PaintedLinks size.links size.circuits start past v work.old work.new }
+fn paint_links(file: File, start: usize, past: usize, v: u16, work: &mut [u8])
+    requires { Paintable file.links file.many start past work.old }
+    ensures { PaintedLinks file.entry.links file.entry.many start past v work.old work.new }
 {
-    let n = size.links;
-    let a = 2 * n;
-    let e = 4 * n;
-    colours::paint(&mut work[a..e], n, start, past, v);
+    let n = file.links;
+    colours::paint(&mut work[2 * n..4 * n], n, start, past, v);
 }
 
 // The circuit at place p of the list is placed in row k: it is out of the queue, and its links within the run are taken.
-fn place(size: Size, k: u16, p: usize, run: Run, circuits: &[u8], work: &mut [u8], list: &mut [u8])
-    requires desk { Desk size.links size.circuits circuits.now work.old list.old }
-    requires placeable { Placeable size.links size.circuits p run list.old }
-    ensures { PlacedOnDesk size.links size.circuits k p run circuits.now work.old work.new list.old list.new }
+fn place(file: File, k: u16, p: usize, run: Run, work: &mut [u8], list: &mut [u8])
+    requires desk { Desk file.links file.many file.circuits.now work.old list.old }
+    requires placeable { Placeable file.links file.many p run list.old }
+    ensures { PlacedOnDesk file.entry.links file.entry.many k p run file.entry.circuits.now work.old work.new list.old list.new }
 {
-    let j = records::numbers::index(records::cells::get(list, 2 * size.circuits + p));
-    let c = records::circuit_at(circuits, j);
-    let start = later(records::numbers::index(c.first), run.from);
-    let past = sooner(records::numbers::index(c.last) + 1, run.past);
+    let j = usize::from(records::cells::get(list, 2 * file.many + p));
+    let c = records::record_at::<Circuit>(file.circuits, j);
+    let start = usize::from(c.first).max(run.from);
+    let past = (usize::from(c.last) + 1).min(run.past);
     records::cells::put(list, p, 0);
-    records::cells::put(work, 2 * size.links + j, k);
-    paint_links(size, start, past, k, work);
+    records::cells::put(work, 2 * file.links + j, k);
+    paint_links(file, start, past, k, work);
 }
 
 // One step of row k, on the run that starts at l.
-fn one_step(
-    size: Size,
-    k: u16,
-    l: usize,
-    waiting: Queue,
-    circuits: &[u8],
-    work: &mut [u8],
-    list: &mut [u8],
-) -> Queue
-    requires desk { Desk size.links size.circuits circuits.now work.old list.old }
-    requires at_run { AtRun size.links k l (lasts_in size.links (cells_of work.old)) × Waiting size.links size.circuits circuits.now work.old list.old waiting }
-    ensures { Stepped size.links size.circuits k circuits.now work.old work.new list.new result }
+fn one_step(file: File, k: u16, l: usize, waiting: Queue, work: &mut [u8], list: &mut [u8]) -> Queue
+    requires desk { Desk file.links file.many file.circuits.now work.old list.old }
+    requires at_run { AtRun file.links k l (lasts_in file.links (cells_of work.old)) × Waiting file.links file.many file.circuits.now work.old list.old waiting }
+    ensures { Stepped file.entry.links file.entry.many k file.entry.circuits.now work.old work.new list.new result }
 {
-    let n = size.links;
-    let a = 2 * n;
-    let e = 4 * n;
-    let run = colours::run_at(&work[a..e], n, k, l);
-    let p = choice::lowest_fit(size.circuits, list, waiting, run);
+    let n = file.links;
+    let run = colours::run_at(&work[2 * n..4 * n], n, k, l);
+    let p = choice::lowest_fit(file.many, list, waiting, run);
     if p < waiting.to {
-        place(size, k, p, run, circuits, work, list);
+        place(file, k, p, run, work, list);
         return Queue {
-            from: waiting.from,
-            to: waiting.to,
             many: waiting.many - 1,
+            ..waiting
         };
     }
-    paint_links(size, run.from, run.past, colours::BLUE, work);
+    paint_links(file, run.from, run.past, colours::BLUE, work);
     waiting
 }
 
 // Row k: a step, while a link is open. No link before the run of the last step is.
-fn fill_row(
-    size: Size,
-    k: u16,
-    waiting: Queue,
-    circuits: &[u8],
-    work: &mut [u8],
-    list: &mut [u8],
-) -> Queue
-    requires desk { Desk size.links size.circuits circuits.now work.old list.old }
-    requires le_k { ((1 ≤ k) × (k < 65535)) × Waiting size.links size.circuits circuits.now work.old list.old waiting }
-    ensures { RowFilled size.links size.circuits k circuits.now work.old work.new list.new result }
+// How many steps there are is known only at the end, so the loop goes by the next open link.
+fn fill_row(file: File, k: u16, waiting: Queue, work: &mut [u8], list: &mut [u8]) -> Queue
+    requires desk { Desk file.links file.many file.circuits.now work.old list.old }
+    requires le_k { ((1 ≤ k) × (k < 65535)) × Waiting file.links file.many file.circuits.now work.old list.old waiting }
+    ensures { RowFilled file.entry.links file.entry.many k file.entry.circuits.now work.old work.new list.new result }
 {
-    let n = size.links;
-    let a = 2 * n;
-    let e = 4 * n;
+    let n = file.links;
     let mut waiting = waiting;
-    let mut l = colours::first_open(&work[a..e], n, k, 1);
-    while l <= n {
-        waiting = one_step(size, k, l, waiting, circuits, work, list);
-        l = colours::first_open(&work[a..e], n, k, l);
+    let mut open = colours::first_open(&work[2 * n..4 * n], n, k, 1);
+    while let Some(l) = open {
+        waiting = one_step(file, k, l, waiting, work, list);
+        open = colours::first_open(&work[2 * n..4 * n], n, k, l);
     }
     waiting
 }
 
 // All rows, to the last.
-pub fn all_rows(size: Size, w: usize, top: usize, circuits: &[u8], work: &mut [u8], list: &mut [u8])
-    requires accepted { Accepted size.links w size.circuits circuits.now × DeskAfter size.links size.circuits w 0 circuits.now work.old list.old }
-    requires top_value { (top ≡ most size.links w (circuits_in size.circuits circuits.now)) × (top * w ≤ 65533) }
-    ensures { DeskAfter size.links size.circuits w (top * w) circuits.now work.new list.new }
+pub fn all_rows(file: File, w: usize, top: usize, work: &mut [u8], list: &mut [u8])
+    requires accepted { Accepted file.links w file.many file.circuits.now × DeskAfter file.links file.many w 0 file.circuits.now work.old list.old }
+    requires top_value { (top ≡ most file.links w (circuits_in file.many file.circuits.now)) × (top * w ≤ 65533) }
+    ensures { DeskAfter file.entry.links file.entry.many w (top * w) file.entry.circuits.now work.new list.new }
 {
-    let mut waiting = queue::line_up(circuits, size.circuits, list);
-    let e = top * w + 1;
-    for k in 1..e {
-        waiting = queue::shorten(size.circuits, list, waiting);
-        waiting = fill_row(size, k as u16, waiting, circuits, work, list);
+    let mut waiting = queue::line_up(file.circuits, file.many, list);
+    for k in 1..top * w + 1 {
+        waiting = queue::shorten(file.many, list, waiting);
+        waiting = fill_row(file, k as u16, waiting, work, list);
     }
 }

@@ -1,6 +1,6 @@
 -- What the searches look for in columns of cells. A contract between crates.
 -- Assumes nothing.
-use Rattle.std.specs.Prelude.{ℕ, ◌*◌, ◌≤◌, Bool, ◌&&◌, List, length, nat_le, slice_index}
+use Rattle.std.specs.Prelude.{◌≡◌, ℕ, ◌*◌, ◌<◌, ◌≤◌, Bool, ◌&&◌, List, length, nat_le, slice_index}
 use Rattle.scans.specs.declared.Bounds.{Bounds}
 
 -- whether a number lies within the bounds
@@ -21,3 +21,11 @@ pub record Searched (firsts lasts : List ℕ) (from to : ℕ) (a b : Bounds) : T
   pub in_lasts : 2 * to ≤ length lasts
   pub places : (from ≤ to) × (to ≤ 65535)
   pub bounds : (a.low ≤ a.high) × (b.low ≤ b.high)
+
+-- a test may be made at each place from `from` to before `to`: pre says where it may be
+abbrev pub TakesFrom : (ℕ → Type 0) → ℕ → ℕ → Type 0
+TakesFrom pre from to = (x : ℕ) → from ≤ x → x < to → pre x
+
+-- and at these places it answers p: post says what it may answer
+abbrev pub Tells : (ℕ → Bool → Type 0) → (ℕ → Bool) → ℕ → ℕ → Type 0
+Tells post p from to = (x : ℕ) (b : Bool) → from ≤ x → x < to → post x b → b ≡ p x

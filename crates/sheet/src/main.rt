@@ -7,13 +7,14 @@ use std::io::Print;
 use std::rt::Files;
 
 // Reads both files, and prints the sheet.
+// Types for these lengths would be no plainer: that a buffer holds more than counts, as the theorems on unread bytes have it, is asked for as a fact.
 fn read_and_print<R: Files + Print>(rt: &R, line: &mut [u8], circuits: &mut [u8], out: &mut [u8])
     requires { (length line.old ≡ 7) × (length circuits.old ≡ 16392) × (147536 ≤ length out.old) }
 {
-    let got_line = files::read_file(rt, b"line.rec", line);
-    let got_circuits = files::read_file(rt, b"circuits.rec", circuits);
-    let k = prints::print_sheet(got_line, line, got_circuits, circuits, out);
-    files::write_output(rt, &out[0..k]);
+    let line = files::read_file(rt, "line.rec", line).ok();
+    let circuits = files::read_file(rt, "circuits.rec", circuits).ok();
+    let k = prints::print_sheet(line, circuits, out);
+    let _ = files::write_output(rt, &out[..k]);
 }
 
 // Lends the buffers.

@@ -6,7 +6,8 @@ use Rattle.grid.specs.Frequencies.{frequency_of}
 use Rattle.records.specs.Records.{record_at, fibre_of, assignment_of}
 use Rattle.records.specs.declared.FibreRecord.{FibreRecord}
 use Rattle.records.specs.declared.AssignmentRecord.{AssignmentRecord}
-use Rattle.refusals.specs.Refusals.{Refusal}
+use Rattle.refusals.specs.Refusals.{number_of, end_told}
+use Rattle.refusals.specs.declared.Refusal.{Refusal}
 
 -- a space and x, for each x
 unfoldable pub fields : List ℕ → List ℕ
@@ -31,7 +32,7 @@ total_line fibres total floor = line 84 (fibres ∷ total ∷ floor ∷ [])
 
 -- R: number, place, which end is wrong
 unfoldable pub refusal_line : Refusal → List ℕ
-refusal_line r = line 82 (r.number ∷ r.place ∷ r.end ∷ [])
+refusal_line r = line 82 (number_of r.reason ∷ r.place ∷ end_told r.end ∷ [])
 
 -- Y: total length, floor
 unfoldable pub yes_line : ℕ → ℕ → List ℕ

@@ -1,26 +1,18 @@
 // Fields, at the start of a lent buffer.
-ghost use Rattle.std.specs.Prelude.{◌≡◌, [], ◌∷◌, ◌++◌, ◌+◌, ◌≤◌, length, drop};
+ghost use Rattle.std.specs.Prelude.{◌≤◌, length};
 ghost use Rattle.sheet_text.specs.Text.{fields};
-ghost use Rattle.text.specs.Decimals.{decimal};
+ghost use Rattle.text.specs.Wrote.{Wrote};
 
-// A space and x. What is told: how many bytes.
-pub fn write_field(x: usize, out: &mut [u8]) -> usize
-    requires { 1 + length (decimal x) ≤ length out.old }
-    ensures { (result ≡ length (fields (x ∷ []))) × (out.new ≡ fields (x ∷ []) ++ drop result out.old)
-        × (result ≡ 1 + length (decimal x)) }
+// A space and x, for each field x. What is told: how many bytes.
+pub fn write_fields(xs: &[usize], out: &mut [u8]) -> usize
+    requires { length (fields xs.now) ≤ length out.old }
+    ensures { Wrote (fields xs.now) result out.old out.new }
 {
-    text::write_byte(32, out);
-    let n = text::write_decimal(x, &mut out[1..]);
-    1 + n
-}
-
-// Two fields. What is told: how many bytes.
-pub fn write_pair(x: usize, y: usize, out: &mut [u8]) -> usize
-    requires { 2 + length (decimal x) + length (decimal y) ≤ length out.old }
-    ensures { (result ≡ length (fields (x ∷ y ∷ []))) × (out.new ≡ fields (x ∷ y ∷ []) ++ drop result out.old)
-        × (result ≡ 2 + length (decimal x) + length (decimal y)) }
-{
-    let n = write_field(x, out);
-    let m = write_field(y, &mut out[n..]);
-    n + m
+    let mut at = 0;
+    for x in xs {
+        text::write_byte(b' ', &mut out[at..]);
+        at += 1;
+        at += text::write_decimal(*x, &mut out[at..]);
+    }
+    at
 }

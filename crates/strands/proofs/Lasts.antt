@@ -27,6 +27,12 @@ layers_turn f n top h pairs table₀ table table' m o q =
     ∙ sym (put_lasts_append 0 (layers_by f n top h) (layer_by f n top (h + 1)) table₀)
     ∙ ap (λ fs. put_lasts 0 fs table₀) (sym (layers_more f n top h))
 
+-- the table keeps its length
+pub length_lasts : (k : ℕ) (fs : List Fibre) (table : List ℕ) → length (put_lasts k fs table) ≡ length table
+unfolding put_lasts
+length_lasts k [] table = refl
+length_lasts k (f ∷ fs) table = length_lasts (k + 1) fs (set table k f.last) ∙ length-set table k f.last
+
 -- places before k stay
 lasts_before : (k : ℕ) (fs : List Fibre) (table : List ℕ) (i : ℕ) → i < k → get_or (put_lasts k fs table) i 0 ≡ get_or table i 0
 unfolding put_lasts

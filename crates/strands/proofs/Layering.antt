@@ -13,7 +13,7 @@ use Rattle.strands.specs.inner.Layers.{HasParts, Spared, layer_by, layers_by, la
 use Rattle.strands.specs.inner.Pairs.{LastsPut, Layering, PairsPut, put_lasts}
 use Rattle.strands.proofs.Same.{at_kept, layer_agrees}
 use Rattle.strands.proofs.Walk.{layers_grow, length_layers}
-use Rattle.strands.proofs.Lasts.{layers_turn}
+use Rattle.strands.proofs.Lasts.{last_read, layers_turn, length_lasts}
 
 module _ {n m top : ℕ} {b₀ table₀ : List ℕ} (parts : HasParts n m top b₀) where
   -- no layer yet
@@ -21,10 +21,6 @@ module _ {n m top : ℕ} {b₀ table₀ : List ℕ} (parts : HasParts n m top b�
   unfolding layers_by put_lasts
   layering_start =
       record { high = omega arith; long = refl; sized = refl; spare = record { kept = refl; starts = λ h l. absurd (omega arith) }; pairs_are = refl; put = refl }
-
-  -- the pairs so far are no more than all
-  pub layering_few : {b table : List ℕ} {h pairs : ℕ} → Layering n m top b₀ table₀ b table h pairs → pairs ≤ length (layers_in n top b₀)
-  layering_few {h = h} g = let a = g.high in let k = g.pairs_are in omega (arith, layers_grow (at (cells_of b₀)) n top h top (omega arith))
 
   module _ {b table : List ℕ} {h pairs : ℕ} (g : Layering n m top b₀ table₀ b table h pairs) (l : h < top) {b₁ : List ℕ} (e : b₁ ≡ set_cell b (2 * n + m + h) pairs) where
     -- one more spare cell
@@ -55,26 +51,27 @@ module _ {n m top : ℕ} {b₀ table₀ : List ℕ} (parts : HasParts n m top b�
         omega (arith, ap length next_layer, length_layers (at (cells_of b₀)) n top h, layers_grow (at (cells_of b₀)) n top (h + 1) top (omega arith))
 
     -- its last links are put
-    pub layering_turn : {table₁ : List ℕ} {r : ℕ} → length b₁ ≡ length b → length table₁ ≡ length table → LastsPut pairs (layer_by (at (cells_of b₁)) n top (h + 1)) table table₁ r
+    pub layering_turn : {table₁ : List ℕ} {r : ℕ} → length b₁ ≡ length b → LastsPut pairs (layer_by (at (cells_of b₁)) n top (h + 1)) table table₁ r
         → Layering n m top b₀ table₀ b₁ table₁ (h + 1) r
-    layering_turn {table₁ = table₁} lb lt p =
+    layering_turn {table₁ = table₁} lb p =
         let k = g.pairs_are in
         record {
           high = omega arith;
           long = lb ∙ g.long;
-          sized = lt ∙ g.sized;
+          sized = ap length p.put ∙ length_lasts pairs (layer_by (at (cells_of b₁)) n top (h + 1)) table ∙ g.sized;
           spare = spare_more;
           pairs_are = omega (arith, ap length next_layer, length_layers (at (cells_of b₀)) n top h);
           put = layers_turn (at (cells_of b₀)) n top h pairs table₀ table table₁ (omega arith) g.put (p.put ∙ ap (λ fs. put_lasts pairs fs table) next_layer);
         }
 
   -- all layers are done
-  pub layering_end : {b table : List ℕ} {h pairs : ℕ} → Layering n m top b₀ table₀ b table h pairs → top ≤ h → PairsPut n m top b₀ b table₀ table pairs
-  layering_end {h = h} g l =
+  pub layering_end : {b table : List ℕ} {h pairs : ℕ} → length (layers_in n top b₀) ≤ length table₀ → Layering n m top b₀ table₀ b table h pairs → top ≤ h → PairsPut n m top b₀ b table pairs
+  layering_end {table = table} {h = h} {pairs = pairs} room g l =
       let z : h ≡ top = (let u = g.high in omega arith) in
       let f = at (cells_of b₀) in
+      let e : pairs ≡ length (layers_in n top b₀) = g.pairs_are ∙ ap (λ y. length (layers_by f n top y)) z in
       record {
-        pairs_are = g.pairs_are ∙ ap (λ y. length (layers_by f n top y)) z;
-        put = g.put ∙ ap (λ y. put_lasts 0 (layers_by f n top y) table₀) z;
+        pairs_are = e;
+        lasts = λ i u. last_read (layers_in n top b₀) table₀ table i (g.put ∙ ap (λ y. put_lasts 0 (layers_by f n top y) table₀) z) room (omega arith);
         spare = rw z at g.spare;
       }

@@ -1,9 +1,10 @@
 -- What the parts of phase two leave, put together. Assumes nothing.
-use Prim.Native.Nat.{ℕ, ◌*◌}
+use Prim.Native.Nat.{ℕ, ◌+◌, ◌-◌, ◌*◌, ◌≤◌}
 use mathlib.Core.Path.{◌≡◌, sym, ap, ◌∙◌}
-use mathlib.Core.List.{List}
+use mathlib.Core.List.{List, ◌++◌}
+use native.Mathlib.Omega.{arith}
 use lib.ListN.{length, drop}
-use lib.Seq.{drop_at}
+use lib.Seq.{drop-drop, drop_at}
 use Rattle.basics.specs.Tools.{sum}
 use Rattle.basics.proofs.Tables.{length_each}
 use Rattle.records.specs.Bytes.{cells_of}
@@ -37,6 +38,12 @@ all_held {n = n} {w = w} {m = m} {count = count} {s = s} {work = work} {assigns 
     (length_twice (pairs n w cs) ∙ ap (λ k. 2 * k) (sym src.strung.count_is)) a
     src.marked.halves
 
+-- behind the first e, a list is the same whatever those become
+pub rest_left : (e k : ℕ) (xs ys : List ℕ) → e ≤ k → length ys ≡ e → drop k (ys ++ drop e xs) ≡ drop k xs
+rest_left e k xs ys h l =
+    let z : e + (k - e) ≡ k = omega arith in
+    ap (λ x. drop x (ys ++ drop e xs)) (sym z) ∙ sym (drop-drop (k - e) e (ys ++ drop e xs)) ∙ ap (drop (k - e)) (drop_at ys (drop e xs) e l) ∙ drop-drop (k - e) e xs ∙ ap (λ x. drop x xs) z
+
 module _ {n w m from top : ℕ} {s : List ℕ} {lent : Areas} (rd : Ready n w m from top s lent) where
   -- the circuits
   abbrev cs : List Circuit
@@ -47,10 +54,10 @@ module _ {n w m from top : ℕ} {s : List ℕ} {lent : Areas} (rd : Ready n w m 
   floor_is = floor_same (at (cells_of lent.work)) n w cs (needs_are rd)
 
   -- the records of the assignments leave the rest of their list
-  rest_left : (out : List ℕ) {assigns : List ℕ} → drop (8 * m) out ≡ drop (8 * m) lent.assigns → assigns ≡ assignment_list 0 cs (assignments n w cs) out
+  others_left : (out : List ℕ) {assigns : List ℕ} → drop (8 * m) out ≡ drop (8 * m) lent.assigns → assigns ≡ assignment_list 0 cs (assignments n w cs) out
       → drop (8 * length cs) assigns ≡ drop (8 * length cs) lent.assigns
   unfolding assignment_list assignments
-  rest_left out d a =
+  others_left out d a =
       let e = length_circuits_in m s in
       let k = length_assignment_records 0 cs (assignments n w cs) (length_each _ 0 (length cs)) in
       ap (drop (8 * length cs)) a ∙ drop_at (assignment_records 0 cs (assignments n w cs)) (drop (8 * length cs) out) (8 * length cs) k ∙ (rw e d)
@@ -66,7 +73,7 @@ module _ {n w m from top : ℕ} {s : List ℕ} {lent : Areas} (rd : Ready n w m 
         registered = record {
           counted = (λ i. record { fibres = (g.counted i).fibres; total = (g.counted i).total; floor = (f ∙ floor_is) i });
           listed = g.listed;
-          assigned = g.assigned ∙ same_rest from cs (lit_plan n w cs).assignments lent.assigns assigns (rest_left out d a);
+          assigned = g.assigned ∙ same_rest from cs (lit_plan n w cs).assignments lent.assigns assigns (others_left out d a);
         };
         sized = l;
       }

@@ -22,11 +22,10 @@ use Rattle.halves.specs.Halves.{FewRows, OneEnd, Halved}
 use Rattle.register.specs.Areas.{Areas}
 use Rattle.strands.specs.Laid.{Ready}
 use Rattle.strands.specs.inner.Layers.{HasParts, layers_by, layers_in}
-use Rattle.strands.specs.inner.Pairs.{HasPairs, PairsPut}
+use Rattle.strands.specs.inner.Pairs.{PairsPut}
 use Rattle.strands.specs.inner.Area.{Marked, Sources, Strung}
 use Rattle.method.proofs.Given.{ends_differ, most_few}
 use Rattle.strands.proofs.Same.{needs_at, layers_same}
-use Rattle.strands.proofs.Lasts.{last_read}
 
 module _ {n w m from top : ℕ} {s : List ℕ} {lent : Areas} (rd : Ready n w m from top s lent) where
   -- the circuits
@@ -70,15 +69,12 @@ module _ {n w m from top : ℕ} {s : List ℕ} {lent : Areas} (rd : Ready n w m 
   pub parts_ready : HasParts n m top lent.work
   parts_ready = let a = rd.accepted in record { long = rd.filled.sized; line = omega arith; few = omega arith; layers = top_few }
 
-  -- and of the table
-  pub pairs_ready : {table₀ : List ℕ} → length table₀ ≡ 2048 → HasParts n m top lent.work × HasPairs (length (layers_in n top lent.work)) table₀
-  pairs_ready e =
-      let a = rd.accepted in
-      let k = pairs_few in
-      (parts_ready, record { room = omega arith; few = omega arith })
+  -- and there is room for the pairs
+  pub pairs_room : length (layers_in n top lent.work) ≤ 2048
+  pairs_room = let a = rd.accepted in let k = pairs_few in omega arith
 
   -- AFTER THE PAIRS
-  module _ {b₁ table₀ table : List ℕ} {count : ℕ} (put : PairsPut n m top lent.work b₁ table₀ table count) where
+  module _ {b₁ table : List ℕ} {count : ℕ} (put : PairsPut n m top lent.work b₁ table count) where
     -- the cells
     abbrev C₁ : List ℕ
     C₁ = cells_of b₁
@@ -119,18 +115,9 @@ module _ {n w m from top : ℕ} {s : List ℕ} {lent : Areas} (rd : Ready n w m 
         }
 
     -- the table
-    strung : length table₀ ≡ 2048 → length table ≡ length table₀ → Strung n w m count s table
-    strung e e' =
-        let k = put.pairs_are in
-        let f = pairs_few in
-        let a = rd.accepted in
-        record {
-          there = record { room = omega arith; few = omega arith };
-          count_is = k ∙ ap length pairs_are;
-          lasts = λ i h. last_read (layers_in n top lent.work) table₀ table i put.put (omega arith) (omega arith) ∙ ap (λ fs. (get_or fs i no_fibre).last) pairs_are;
-        }
+    strung : Strung n w m count s table
+    strung = record { count_is = put.pairs_are ∙ ap length pairs_are; lasts = λ i h. put.lasts i h ∙ ap (λ fs. (get_or fs i no_fibre).last) pairs_are }
 
     -- what the assignments are read from
-    pub sources : {b₂ : List ℕ} → length b₁ ≡ length lent.work → length b₂ ≡ length b₁ → Halved n m cs C₁ (cells_of b₂) → length table₀ ≡ 2048 → length table ≡ length table₀
-        → Sources n w m count s b₂ table
-    sources {b₂ = b₂} l₁ l₂ hv e e' = record { accepted = rd.accepted; marked = marked b₂ (l₂ ∙ l₁ ∙ rd.filled.sized) hv; strung = strung e e' }
+    pub sources : {b₂ : List ℕ} → length b₁ ≡ length lent.work → length b₂ ≡ length b₁ → Halved n m cs C₁ (cells_of b₂) → Sources n w m count s b₂ table
+    sources {b₂ = b₂} l₁ l₂ hv = record { accepted = rd.accepted; marked = marked b₂ (l₂ ∙ l₁ ∙ rd.filled.sized) hv; strung = strung }

@@ -7,12 +7,14 @@ use native.Mathlib.Omega.{arith}
 use native.Mathlib.Numerals.{add-one}
 use lib.Dec.{leb}
 use borrow.Author.Tests.{le-leb, lt-leb}
+use Rattle.std.specs.Bool.{then_some}
+use Rattle.std.specs.Prelude.{Option, None, Some}
 use Rattle.basics.specs.Tools.{seek, sum}
 use Rattle.basics.proofs.Bools.{by_le}
 use Rattle.method.specs.Sheet.{at}
 use Rattle.scans.specs.Scans.{within, cell_within}
 use Rattle.rows.proofs.ShownLaws.{links_sought}
-use Rattle.strands.specs.inner.Layers.{reaches}
+use Rattle.strands.specs.inner.Layers.{link_or_end, on_line, reaches}
 
 -- one more link of a sum
 pub sum_more : (f : ℕ → ℕ) (i : ℕ) → sum f (i + 1) ≡ f (i + 1) + sum f i
@@ -43,3 +45,17 @@ module _ (C : List ℕ) (n t i r : ℕ) (pos : 1 ≤ i) (end : i ≤ n + 1) wher
   end_is p e =
       links_sought (record { low = 0; high = t - 1 }) (λ x. not (reaches (at C) t x)) n i r C pos end (λ x a b. short_within t (at C x) p) e
       ∙ ap (λ (k : ℕ). seek (λ x. not (reaches (at C) t x)) i (k - i)) (add-one n)
+
+-- a link up to the one past the line is told
+pub told_link : (n l : ℕ) (at : Option ℕ) → l ≤ n + 1 → at ≡ on_line n l → link_or_end n at ≡ l
+told_link n l at b e =
+    by_le l n
+    (λ u. ap (link_or_end n) (e ∙ ap (λ t. then_some t l) (le-leb l n u)))
+    (λ u. ap (link_or_end n) (e ∙ ap (λ t. then_some t l) (lt-leb l n u)) ∙ omega arith)
+
+-- what is told is on the line
+pub told_low : (n x l : ℕ) → Some l ≡ on_line n x → l ≤ n
+told_low n x l e =
+    by_le x n
+    (λ u. let z : l ≡ x = ap (link_or_end n) (e ∙ ap (λ t. then_some t x) (le-leb x n u)) in omega arith)
+    (λ u. let z : Some l ≡ None = e ∙ ap (λ t. then_some t x) (lt-leb x n u) in cc)

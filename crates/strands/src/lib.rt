@@ -1,4 +1,5 @@
 // Phase two: from rows to fibres, and no dark ones.
+// The lent areas go one by one: a struct that holds them by reference makes clauses say `.entry.` of each field.
 #![tactic(auto)]
 
 mod assigns;
@@ -23,13 +24,12 @@ pub fn lay(
     ensures { Laid job.links job.wavelengths job.circuits job.from circuits.now (areas fibres.old assigns.old work.old) (areas fibres.new assigns.new work.new) result }
 {
     let floor = needs::floor_of(work, job.links);
-    // A table of its own: no byte behind the new fibre records may change.
-    let mut lasts: [u16; 2048] = [0; 2048];
-    let pairs = pairs::pair_lasts(work, job.links, job.circuits, top, &mut lasts);
-    let e = 2 * job.circuits;
-    halves::write_halves(circuits, job.links, job.circuits, work, &mut assigns[0..e]);
-    assigns::write_assignments(job, pairs, circuits, work, &lasts, assigns);
-    let t = lit::trim(job, 2 * pairs, circuits, work, fibres, assigns);
+    // They have a table of their own: no byte behind the new fibre records may change.
+    let pairs = pairs::of_layers(work, job.links, job.circuits, top);
+    let cells = &mut assigns[..2 * job.circuits];
+    halves::write_halves(circuits, job.links, job.circuits, work, cells);
+    assigns::write_assignments(job, &pairs, circuits, work, assigns);
+    let t = lit::trim(job, 2 * pairs.count, circuits, work, fibres, assigns);
     Counts {
         fibres: t.fibres,
         total: t.total,

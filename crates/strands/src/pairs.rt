@@ -1,40 +1,49 @@
-// The last link of each pair of fibres of the method.
-ghost use Rattle.std.specs.Prelude.{◌+◌, length};
+// The pairs of fibres of the method.
+ghost use Rattle.std.specs.Prelude.{◌+◌, ◌≤◌, length};
 ghost use Rattle.strands.specs.inner.Layers.{HasLayer, HasParts, layer_in, layers_in};
-ghost use Rattle.strands.specs.inner.Pairs.{HasPairs, LastsPut, PairsPut};
+ghost use Rattle.strands.specs.inner.Pairs.{LastsPut, PairsPut};
 
 use crate::needs;
 
-// The last links of the pairs of layer h, from place `place` of the table on. What is told: the place after them.
-fn one_layer(work: &[u8], n: usize, top: usize, h: usize, place: usize, lasts: &mut [u16]) -> usize
-    requires has_layer { HasLayer n top h work.now }
-    requires has_pairs { HasPairs (place + length (layer_in n top h work.now)) lasts.old }
-    ensures { LastsPut place (layer_in n top h work.now) lasts.old lasts.new result }
-{
-    let t = (top + 1 - h) as u16;
-    let mut place = place;
-    let mut l = needs::next_run(work, n, 1, t);
-    while l <= n {
-        let r = needs::end_run(work, n, l, t);
-        lasts[place] = (r - 1) as u16;
-        place += 1;
-        l = needs::next_run(work, n, r, t);
-    }
-    place
+// How many, and the last link of each, in the order of their layers. Tables of this size are never copied or compared.
+#[derive(Drop)]
+pub struct Pairs {
+    pub count: usize,
+    pub lasts: [u16; 2048],
+    ghost room: { count ≤ 2048 },
 }
 
-// The last link of each pair. What is told: how many pairs. Before each layer, their number goes into a spare cell of the work area.
-pub fn pair_lasts(work: &mut [u8], n: usize, m: usize, top: usize, lasts: &mut [u16]) -> usize
+impl Pairs {
+    // The pairs of layer h come behind those that are there.
+    fn add_layer(&mut self, work: &[u8], n: usize, top: usize, h: usize)
+        requires has_layer { HasLayer n top h work.now }
+        requires has_room { self.old.count + length (layer_in n top h work.now) ≤ 2048 }
+        ensures { LastsPut self.old.count (layer_in n top h work.now) self.old.lasts self.new.lasts self.new.count }
+    {
+        let t = (top + 1 - h) as u16;
+        let mut at = needs::next_run(work, n, 1, t);
+        while let Some(l) = at {
+            let r = needs::end_run(work, n, l, t);
+            self.lasts[self.count] = (r - 1) as u16;
+            self.count += 1;
+            at = needs::next_run(work, n, r, t);
+        }
+    }
+}
+
+// The pairs of all layers. Before each layer, their number goes into a spare cell of the work area.
+pub fn of_layers(work: &mut [u8], n: usize, m: usize, top: usize) -> Pairs
     requires has_parts { HasParts n m top work.old }
-    requires has_pairs { HasPairs (length (layers_in n top work.old)) lasts.old }
-    ensures { PairsPut n m top work.old work.new lasts.old lasts.new result }
+    requires has_room { length (layers_in n top work.old) ≤ 2048 }
+    ensures { PairsPut n m top work.old work.new result.lasts result.count }
 {
-    let mut h = 0;
-    let mut pairs = 0;
-    while h < top {
-        records::cells::put(work, 2 * n + m + h, pairs as u16);
-        h += 1;
-        pairs = one_layer(work, n, top, h, pairs, lasts);
+    let mut pairs = Pairs {
+        count: 0,
+        lasts: [0; 2048],
+    };
+    for h in 0..top {
+        records::cells::put(work, 2 * n + m + h, pairs.count as u16);
+        pairs.add_layer(work, n, top, h + 1);
     }
     pairs
 }

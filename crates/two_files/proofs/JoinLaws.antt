@@ -12,7 +12,11 @@ use Rattle.basics.proofs.Bools.{by_le}
 use Rattle.records.specs.Records.{record_at, circuit_of, circuits_in, number_in}
 use Rattle.records.specs.declared.Circuit.{Circuit}
 use Rattle.records.proofs.Files.{circuits_in_at, length_circuits_in}
-use Rattle.refusals.specs.Refusals.{Refusal}
+use Rattle.std.specs.Prelude.{Option as Told}
+use Rattle.refusals.specs.declared.Refusal.{Refusal}
+use Rattle.refusals.specs.declared.Reason.{Reason}
+use Rattle.refusals.specs.declared.Reason.TheVariants.{NumberZero, WrongEnd}
+use Rattle.refusals.specs.declared.End.{End}
 use Rattle.refusals.specs.Table.{wherever, no_end, first_record, bad_ends, wrong_end, row5, row6}
 use Rattle.refusals.proofs.First.{record_first, record_none}
 use Rattle.refusals.proofs.FirstLaws.{first_hit, first_end}
@@ -45,20 +49,20 @@ module _ (k m : ℕ) (p q r : ℕ → Bool) (left : (i : ℕ) → i < k → p i 
       (λ l. none_left f i (omega arith))
 
   -- the first of the joined records that passes is the first old one, or else the first new one, counted on
-  pub joined_row : (number : ℕ) (ends endsOld endsNew : ℕ → ℕ) → ((i : ℕ) → i < k → ends i ≡ endsOld i) → ((i : ℕ) → i < m → ends (k + i) ≡ endsNew i)
-      → wherever number ends (first_record p (k + m)) ≡ or_else (wherever number endsOld (first_record q k)) (later k (wherever number endsNew (first_record r m)))
-  joined_row number ends endsOld endsNew a b = go (first_record q k) refl
+  pub joined_row : (reason : Reason) (ends endsOld endsNew : ℕ → Told End) → ((i : ℕ) → i < k → ends i ≡ endsOld i) → ((i : ℕ) → i < m → ends (k + i) ≡ endsNew i)
+      → wherever reason ends (first_record p (k + m)) ≡ or_else (wherever reason endsOld (first_record q k)) (later k (wherever reason endsNew (first_record r m)))
+  joined_row reason ends endsOld endsNew a b = go (first_record q k) refl
     where
-      row : (j : ℕ) (end : ℕ) → ends j ≡ end → j < k + m → p j ≡ true → ((i : ℕ) → i < j → p i ≡ false) → (place : ℕ) → place ≡ suc j
-          → wherever number ends (first_record p (k + m)) ≡ some (record { number = number; place = place; end = end })
+      row : (j : ℕ) (end : Told End) → ends j ≡ end → j < k + m → p j ≡ true → ((i : ℕ) → i < j → p i ≡ false) → (place : ℕ) → place ≡ suc j
+          → wherever reason ends (first_record p (k + m)) ≡ some (record { reason = reason; place = place; end = end })
       row j end e h t before place s =
           let z : suc j - 1 ≡ j = omega arith in
-          ap (wherever number ends) (first_hit p (k + m) j h t before)
-          ∙ ap (λ (x : Refusal). some x) (λ i. record { number = number; place = sym s i; end = (ap ends z ∙ e) i })
+          ap (wherever reason ends) (first_hit p (k + m) j h t before)
+          ∙ ap (λ (x : Refusal). some x) (λ i. record { reason = reason; place = sym s i; end = (ap ends z ∙ e) i })
 
       new : ((i : ℕ) → i < k → q i ≡ false) → (o : Option ℕ) → first_record r m ≡ o
-          → wherever number ends (first_record p (k + m)) ≡ later k (wherever number endsNew (first_record r m))
-      new f none e = rw e (ap (wherever number ends) (first_end p (k + m) (none_to m (omega arith) f (record_none r m e))))
+          → wherever reason ends (first_record p (k + m)) ≡ later k (wherever reason endsNew (first_record r m))
+      new f none e = rw e (ap (wherever reason ends) (first_end p (k + m) (none_to m (omega arith) f (record_none r m e))))
       new f (some place) e =
           let g = record_first r m place e in
           let j = g.0 in
@@ -69,7 +73,7 @@ module _ (k m : ℕ) (p q r : ℕ → Bool) (left : (i : ℕ) → i < k → p i 
           (row (k + j) (endsNew (place - 1)) (b j h ∙ ap endsNew z) (omega arith) (right j h ∙ g.3) (none_to j (omega arith) f g.4) (k + place) (omega arith))
 
       go : (o : Option ℕ) → first_record q k ≡ o
-          → wherever number ends (first_record p (k + m)) ≡ or_else (wherever number endsOld (first_record q k)) (later k (wherever number endsNew (first_record r m)))
+          → wherever reason ends (first_record p (k + m)) ≡ or_else (wherever reason endsOld (first_record q k)) (later k (wherever reason endsNew (first_record r m)))
       go none e = rw e (new (record_none q k e) (first_record r m) refl)
       go (some place) e =
           let g = record_first q k place e in
@@ -87,7 +91,7 @@ module _ (old new : List ℕ) (k m : ℕ) (whole : 8 * k ≡ length old) where
       joined_row k m (λ i. eqb (number_in (old ++ new) i) 0) (λ i. eqb (number_in old i) 0) (λ i. eqb (number_in new i) 0)
       (λ i h. ap (λ (x : List ℕ). eqb (circuit_of x).number 0) (record_old old new k whole i h))
       (λ i h. ap (λ (x : List ℕ). eqb (circuit_of x).number 0) (record_new old new k whole i))
-      5 no_end no_end no_end (λ i h. refl) (λ i h. refl)
+      NumberZero no_end no_end no_end (λ i h. refl) (λ i h. refl)
 
   -- and so is 6, with the end that is wrong
   pub joined6 : (n : ℕ) → row6 n (old ++ new) (k + m) ≡ or_else (row6 n old k) (later k (row6 n new m))
@@ -96,7 +100,7 @@ module _ (old new : List ℕ) (k m : ℕ) (whole : 8 * k ≡ length old) where
       (λ i. bad_ends n (circuit_of (record_at (old ++ new) i))) (λ i. bad_ends n (circuit_of (record_at old i))) (λ i. bad_ends n (circuit_of (record_at new i)))
       (λ i h. ap (λ (x : List ℕ). bad_ends n (circuit_of x)) (record_old old new k whole i h))
       (λ i h. ap (λ (x : List ℕ). bad_ends n (circuit_of x)) (record_new old new k whole i))
-      6
+      WrongEnd
       (λ i. wrong_end n (circuit_of (record_at (old ++ new) i))) (λ i. wrong_end n (circuit_of (record_at old i))) (λ i. wrong_end n (circuit_of (record_at new i)))
       (λ i h. ap (λ (x : List ℕ). wrong_end n (circuit_of x)) (record_old old new k whole i h))
       (λ i h. ap (λ (x : List ℕ). wrong_end n (circuit_of x)) (record_new old new k whole i))

@@ -12,29 +12,34 @@ use Rattle.basics.proofs.Bools.{by_le}
 use Rattle.basics.proofs.Searches.{any_both}
 use Rattle.records.specs.Records.{record_at, circuit_of, number_in}
 use Rattle.refusals.specs.Table.{Row, wherever, no_end, first_record, has_number, repeats, row7, tested}
-use Rattle.refusals.specs.declared.Verdict.{Verdict}
-use Rattle.refusals.specs.declared.Verdict.TheVariants.{Checked, Refused}
-use Rattle.refusals.proofs.First.{refused_not_checked}
+use Rattle.std.specs.Prelude.{None, Result, Ok, Err}
+use Rattle.refusals.specs.declared.Refusal.{Refusal}
+use Rattle.refusals.specs.declared.Reason.TheVariants.{NumberTwice, NumberTaken}
 use Rattle.refusals.proofs.Passed.{passed7, wherever_none}
 use Rattle.two_files.specs.Rows.{later, has_old, row14}
 use Rattle.two_files.specs.Joint.{or_else, Unlike}
 use Rattle.two_files.proofs.JoinLaws.{record_old, record_new, joined_row}
 use Rattle.two_files.proofs.LaterLaws.{later_out}
 
+-- 14, refused at the place of this refusal
+taken : Refusal → Result ℕ Refusal
+taken r = Err (record { reason = NumberTaken; place = r.place; end = None })
+
 -- 7 and 14 are refused at the same places
-same_place : (k z x number place end : ℕ) (o : Option ℕ) (t : Verdict) → t ≡ tested (later k (wherever 7 no_end o)) z → t ≡ Refused number place end
-    → Refused 14 place 0 ≡ tested (later k (wherever 14 no_end o)) x
-same_place k z x number place end none t e f = refused_not_checked (record { number = number; place = place; end = end }) z (sym f ∙ e)
-same_place k z x number place end (some a) t e f =
-    let g : Refused number place end ≡ Refused 7 (k + a) 0 = sym f ∙ e in
-    let q : place ≡ k + a = cc in
-    ap (λ (p : ℕ). Refused 14 p 0) q
+same_place : (k z x : ℕ) (r : Refusal) (o : Option ℕ) → tested (later k (wherever NumberTwice no_end o)) z ≡ Err r → tested (later k (wherever NumberTaken no_end o)) x ≡ taken r
+unfolding taken
+same_place k z x r none e = cc
+same_place k z x r (some a) e = cc
 
 -- and passed alike
-same_passed : (k z x y : ℕ) (o : Option ℕ) (t : Verdict) → t ≡ tested (later k (wherever 7 no_end o)) z → t ≡ Checked y
-    → Checked x ≡ tested (later k (wherever 14 no_end o)) x
-same_passed k z x y none t e f = refl
-same_passed k z x y (some a) t e f = refused_not_checked (record { number = 7; place = k + a; end = 0 }) y (sym e ∙ f)
+same_passed : (k z x y : ℕ) (o : Option ℕ) → tested (later k (wherever NumberTwice no_end o)) z ≡ Ok y → tested (later k (wherever NumberTaken no_end o)) x ≡ Ok x
+same_passed k z x y none e = refl
+same_passed k z x y (some a) e = cc
+
+-- what 14 answers, by what 7 does
+abbrev pub taken_told : ℕ → Result ℕ Refusal → Result ℕ Refusal
+taken_told x (Ok y) = Ok x
+taken_told x (Err r) = Err (record { reason = NumberTaken; place = r.place; end = None })
 
 -- s is both files, whatever stands behind them
 module _ (s old new rest : List ℕ) (k m : ℕ) (is : s ≡ (old ++ new) ++ rest) (wholeOld : 8 * k ≡ length old) (wholeNew : 8 * m ≡ length new) where
@@ -83,22 +88,28 @@ module _ (s old new rest : List ℕ) (k m : ℕ) (is : s ≡ (old ++ new) ++ res
           absurd (omega arith)
 
   -- so 7 of s has the places of 14
-  places : Unlike old k new m → row7 s (k + m) ≡ later k (wherever 7 no_end (first_record (has_old old k new) m))
+  places : Unlike old k new m → row7 s (k + m) ≡ later k (wherever NumberTwice no_end (first_record (has_old old k new) m))
   places u =
-      joined_row k m (repeats s) (repeats old) (has_old old k new) repeats_old (repeats_new u.in_new) 7 no_end no_end no_end (λ i h. refl) (λ i h. refl)
-      ∙ ap (λ (row : Row). or_else row (later k (wherever 7 no_end (first_record (has_old old k new) m)))) u.in_old
+      joined_row k m (repeats s) (repeats old) (has_old old k new) repeats_old (repeats_new u.in_new) NumberTwice no_end no_end no_end (λ i h. refl) (λ i h. refl)
+      ∙ ap (λ (row : Row). or_else row (later k (wherever NumberTwice no_end (first_record (has_old old k new) m)))) u.in_old
 
   -- 7 of s is refused: 14 is, at that place
-  pub old_number : Unlike old k new m → (z x number place end : ℕ) (t : Verdict) → t ≡ tested (row7 s (k + m)) z → t ≡ Refused number place end
-      → Refused 14 place 0 ≡ tested (row14 old k new m) x
-  old_number u z x number place end t e f = same_place k z x number place end (first_record (has_old old k new) m) t (e ∙ ap (λ (row : Row). tested row z) (places u)) f
+  pub old_number : Unlike old k new m → (z x : ℕ) (r : Refusal) → tested (row7 s (k + m)) z ≡ Err r
+      → tested (row14 old k new m) x ≡ Err (record { reason = NumberTaken; place = r.place; end = None })
+  unfolding taken
+  old_number u z x r e = same_place k z x r (first_record (has_old old k new) m) (sym (ap (λ (row : Row). tested row z) (places u)) ∙ e)
 
   -- 7 of s is passed: so is 14
-  pub no_old_number : Unlike old k new m → (z x y : ℕ) (t : Verdict) → t ≡ tested (row7 s (k + m)) z → t ≡ Checked y → Checked x ≡ tested (row14 old k new m) x
-  no_old_number u z x y t e f = same_passed k z x y (first_record (has_old old k new) m) t (e ∙ ap (λ (row : Row). tested row z) (places u)) f
+  pub no_old_number : Unlike old k new m → (z x y : ℕ) → tested (row7 s (k + m)) z ≡ Ok y → tested (row14 old k new m) x ≡ Ok x
+  no_old_number u z x y e = same_passed k z x y (first_record (has_old old k new) m) (sym (ap (λ (row : Row). tested row z) (places u)) ∙ e)
+
+  -- so 14 answers as 7 of s does
+  pub old_told : Unlike old k new m → (z x : ℕ) (t : Result ℕ Refusal) → t ≡ tested (row7 s (k + m)) z → tested (row14 old k new m) x ≡ taken_told x t
+  old_told u z x (Ok y) e = no_old_number u z x y (sym e)
+  old_told u z x (Err r) e = old_number u z x r (sym e)
 
   -- where 14 does not apply either, no number stands twice in s
   pub none_twice : Unlike old k new m → row14 old k new m ≡ none → row7 s (k + m) ≡ none
   none_twice u e =
       let first = first_record (has_old old k new) m in
-      places u ∙ ap (λ (o : Option ℕ). later k (wherever 7 no_end o)) (wherever_none 14 no_end first (later_out k (wherever 14 no_end first) e))
+      places u ∙ ap (λ (o : Option ℕ). later k (wherever NumberTwice no_end o)) (wherever_none NumberTaken no_end first (later_out k (wherever NumberTaken no_end first) e))

@@ -1,4 +1,5 @@
 // Tests of two files of circuits, the old one first: places in the new file count on from the old one.
+// The lent areas go one by one: a struct that holds them by reference makes clauses say `.entry.` of each field.
 #![tactic(auto)]
 
 ghost use Rattle.std.specs.Prelude.{◌≡◌, ◌++◌, ◌+◌, ◌*◌, ◌≤◌, length};
@@ -7,58 +8,45 @@ ghost use Rattle.text.specs.Wrote.{Wrote};
 ghost use Rattle.two_files.specs.Rows.{later, row14};
 ghost use Rattle.two_files.specs.Joint.{place_of, counted_on, Unlike};
 
-use refusals::Verdict;
+use refusals::{Reason, Refusal};
 
 pub mod admit;
 
 // What a test of the new file answers: a refusal's place counts on from the k records of the old one.
-fn counted_on(t: Verdict, k: usize) -> Verdict
+fn counted_on(t: Result<usize, Refusal>, k: usize) -> Result<usize, Refusal>
     requires { (place_of t ≤ 2048) × (k ≤ 2048) }
     ensures { result ≡ counted_on k t }
 {
-    match t {
-        Verdict::Checked(x) => Verdict::Checked(x),
-        Verdict::Refused { number, place, end } => Verdict::Refused {
-            number,
-            place: k as u32 + place,
-            end,
-        },
-    }
+    t.map_err(|r| Refusal {
+        place: k as u32 + r.place,
+        ..r
+    })
 }
 
 // 5 of the joined file: no circuit number is 0.
-pub fn numbered(old: &[u8], k: usize, new: &[u8], m: usize) -> Verdict
+pub fn numbered(old: &[u8], k: usize, new: &[u8], m: usize) -> Result<usize, Refusal>
     requires { (8 * k ≡ length old.now) × (8 * m ≤ length new.now) × (k + m ≤ 2048) }
     ensures { result ≡ tested (row5 (old.now ++ new.now) (k + m)) m }
 {
-    let t = refusals::numbered(old, k);
-    let Verdict::Checked(_) = t else {
-        return t;
-    };
-    let u = refusals::numbered(new, m);
-    counted_on(u, k)
+    refusals::numbered(old, k)?;
+    counted_on(refusals::numbered(new, m), k)
 }
 
 // 6 of the joined file: every circuit lies on the line of n links.
-pub fn on_line(old: &[u8], k: usize, new: &[u8], m: usize, n: usize) -> Verdict
+pub fn on_line(old: &[u8], k: usize, new: &[u8], m: usize, n: usize) -> Result<usize, Refusal>
     requires { (8 * k ≡ length old.now) × (8 * m ≤ length new.now) × (k + m ≤ 2048) }
     ensures { result ≡ tested (row6 n (old.now ++ new.now) (k + m)) m }
 {
-    let t = refusals::on_line(old, k, n);
-    let Verdict::Checked(_) = t else {
-        return t;
-    };
-    let u = refusals::on_line(new, m, n);
-    counted_on(u, k)
+    refusals::on_line(old, k, n)?;
+    counted_on(refusals::on_line(new, m, n), k)
 }
 
 // 7 in the new file, after k old records: no circuit number stands twice in it.
-pub fn unlike_new(new: &[u8], m: usize, k: usize) -> Verdict
+pub fn unlike_new(new: &[u8], m: usize, k: usize) -> Result<usize, Refusal>
     requires { (8 * m ≤ length new.now) × (k + m ≤ 2048) }
     ensures { result ≡ tested (later k (row7 new.now m)) m }
 {
-    let t = refusals::unlike(new, m);
-    counted_on(t, k)
+    counted_on(refusals::unlike(new, m), k)
 }
 
 // The joined file, at the start of a lent list. What is told: how many bytes.
@@ -71,20 +59,13 @@ pub fn join(old: &[u8], new: &[u8], out: &mut [u8]) -> usize
 }
 
 // 14: no new record has a number of the old file. Where no number stands twice in either file, the first such record is the first to repeat one in the joined file.
-pub fn unlike_old(old: &[u8], k: usize, new: &[u8], m: usize) -> Verdict
+pub fn unlike_old(old: &[u8], k: usize, new: &[u8], m: usize) -> Result<usize, Refusal>
     requires k_value { (8 * k ≡ length old.now) × (8 * m ≡ length new.now) × (k + m ≤ 2048) }
     requires unlike { Unlike old.now k new.now m }
     ensures { result ≡ tested (row14 old.now k new.now m) m }
 {
     let mut joined: [u8; 16384] = [0; 16384];
     join(old, new, &mut joined);
-    let t = refusals::unlike(&joined, k + m);
-    match t {
-        Verdict::Checked(_) => Verdict::Checked(m),
-        Verdict::Refused { place, .. } => Verdict::Refused {
-            number: 14,
-            place,
-            end: 0,
-        },
-    }
+    refusals::unlike(&joined, k + m).map_err(|r| Refusal::at(Reason::NumberTaken, r.place))?;
+    Ok(m)
 }

@@ -18,8 +18,7 @@ use Rattle.records.specs.declared.Circuit.{Circuit}
 use Rattle.records.proofs.CellLaws.{cell_is}
 use Rattle.method.specs.Sheet.{at, blue, fits, in_run, run_from, run_past}
 use Rattle.method.proofs.Circuits.{circuit_in_lem}
-use Rattle.whole_sheet.specs.declared.choice.Choice.{Choice}
-use Rattle.whole_sheet.specs.declared.choice.Choice.TheVariants.{Lowest, Nobody}
+use Rattle.std.specs.Prelude.{Option as Told, Some, None}
 use Rattle.whole_sheet.specs.declared.colours.Run.{Run}
 use Rattle.whole_sheet.specs.inner.Board.{AtRun, light}
 use Rattle.whole_sheet.specs.inner.Choices.{number_of, place_of}
@@ -53,11 +52,11 @@ pub row_read : (n m j v : ℕ) (work : List ℕ) → length work ≡ 4 * n + 4 *
 row_read n m j v work l h e = get_d_part (2 * n) m (cells_of work) j 0 h ∙ sym (cell_is work (2 * n + j) (omega arith)) ∙ sym e
 
 -- THE BEST SO FAR, once circuit j may go: nobody was found before
-pub first_found : (m j : ℕ) (s : List ℕ) (best : Choice) → best ≡ Nobody → some j ≡ better true (number_of m s) j (place_of best)
+pub first_found : (m j : ℕ) (s : List ℕ) (best : Told ℕ) → best ≡ None → some j ≡ better true (number_of m s) j (place_of best)
 unfolding better
 first_found m j s best e = rw e refl
 
-module _ (m j b : ℕ) (s : List ℕ) (best : Choice) (c d : Circuit) (e : best ≡ Lowest b) (h : j < m) (g : b < m)
+module _ (m j b : ℕ) (s : List ℕ) (best : Told ℕ) (c d : Circuit) (e : best ≡ Some b) (h : j < m) (g : b < m)
     (x : c ≡ circuit_of (record_at s j)) (y : d ≡ circuit_of (record_at s b)) where
   -- the number of circuit j
   one : c.number ≡ number_of m s j

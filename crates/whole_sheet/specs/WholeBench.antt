@@ -1,6 +1,6 @@
 -- Whole sheets of 01's cases, slips, and the test of the sheet. `proofs/WholeBench.antt` shows that each holds. What a reader must believe.
 -- Assumes nothing.
-use Rattle.std.specs.Prelude.{ℕ, List, [], ◌∷◌, ◌++◌, ◌≡◌, length}
+use Rattle.std.specs.Prelude.{ℕ, List, [], ◌∷◌, ◌++◌, ◌≡◌, length, None, Result, Ok}
 use Rattle.std.proofs.Math.Option.{none, some}
 use Rattle.records.specs.Records.{file_of}
 use Rattle.records.specs.declared.Circuit.{Circuit}
@@ -9,10 +9,10 @@ use Rattle.method.specs.Bench.{c, f, g, three}
 use Rattle.method.specs.Fibres.{floor}
 use Rattle.method.specs.Line.{Assignment, Fibre, total}
 use Rattle.method.specs.Lit.{lit_plan}
-use Rattle.refusals.specs.Bench.{on}
+use Rattle.refusals.specs.Bench.{on, refused}
 use Rattle.refusals.specs.Table.{Row, verdict}
-use Rattle.refusals.specs.declared.Verdict.{Verdict}
-use Rattle.refusals.specs.declared.Verdict.TheVariants.{Checked, Refused}
+use Rattle.refusals.specs.declared.Refusal.{Refusal}
+use Rattle.refusals.specs.declared.Reason.TheVariants.{WorkRoom, SheetRoom}
 use Rattle.whole_sheet.specs.Cells.{cells}
 use Rattle.whole_sheet.specs.WholeOutcome.{row21, whole_table}
 
@@ -21,7 +21,7 @@ pub data WholeCase : Type 0 where
   -- the rows of the sheet, the plan, its total and floor
   sheeted : (n w : ℕ) → List Circuit → List (List ℕ) → List Fibre → List Assignment → (length floor : ℕ) → WholeCase
   -- for a line, circuits, and a fibre list, an assignment list, a work area and a sheet of so many bytes, the tests answer so
-  tests : Line → List Circuit → (fibres assigns work sheet : ℕ) → Verdict → WholeCase
+  tests : Line → List Circuit → (fibres assigns work sheet : ℕ) → Result ℕ Refusal → WholeCase
   -- row 21, for so many cells and a lent sheet of so many bytes
   tabled : (count has : ℕ) → Row → WholeCase
 
@@ -80,16 +80,16 @@ whole_slips =
 unfoldable pub sheet_tests : List WholeCase
 sheet_tests =
     -- one cell, and a lent sheet one byte short
-    tests (on 1 1 1) (c 7 1 1 ∷ []) 8 8 8 1 (Checked 1) ∷
-    tests (on 1 1 1) (c 7 1 1 ∷ []) 8 8 8 0 (Refused 21 0 0) ∷
+    tests (on 1 1 1) (c 7 1 1 ∷ []) 8 8 8 1 (Ok 1) ∷
+    tests (on 1 1 1) (c 7 1 1 ∷ []) 8 8 8 0 (refused SheetRoom 0 None) ∷
     -- two links, two rows
-    tests (on 2 1 1) (c 1 1 1 ∷ c 2 1 2 ∷ []) 16 16 16 4 (Checked 2) ∷
-    tests (on 2 1 1) (c 1 1 1 ∷ c 2 1 2 ∷ []) 16 16 16 3 (Refused 21 0 0) ∷
+    tests (on 2 1 1) (c 1 1 1 ∷ c 2 1 2 ∷ []) 16 16 16 4 (Ok 2) ∷
+    tests (on 2 1 1) (c 1 1 1 ∷ c 2 1 2 ∷ []) 16 16 16 3 (refused SheetRoom 0 None) ∷
     -- it comes last
-    tests (on 1 1 1) (c 7 1 1 ∷ []) 8 8 7 0 (Refused 10 0 0) ∷
+    tests (on 1 1 1) (c 7 1 1 ∷ []) 8 8 7 0 (refused WorkRoom 0 None) ∷
     -- no rows: any lent sheet will do
-    tests (on 5 2 1) [] 0 0 20 0 (Checked 0) ∷
+    tests (on 5 2 1) [] 0 0 20 0 (Ok 0) ∷
     -- the most cells, and one more
     tabled 65536 65536 none ∷
-    tabled 65537 65537 (some (record { number = 21; place = 0; end = 0 })) ∷
+    tabled 65537 65537 (some (record { reason = SheetRoom; place = 0; end = None })) ∷
     []

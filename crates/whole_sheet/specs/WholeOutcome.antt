@@ -1,19 +1,19 @@
 -- What `plan_whole` answers, and what the four lent areas hold afterwards, for every input. What a reader must believe.
 -- Assumes nothing.
-use Rattle.std.specs.Prelude.{ℕ, ◌+◌, ◌*◌, ◌/◌, ◌||◌, List, [], ◌∷◌, ◌++◌, ◌≡◌, ltb, length}
+use Rattle.std.specs.Prelude.{ℕ, ◌+◌, ◌*◌, ◌/◌, ◌||◌, List, [], ◌∷◌, ◌++◌, ◌≡◌, ltb, length, Result}
 use Rattle.records.specs.Records.{circuits_of}
 use Rattle.records.specs.declared.Line.{Line}
 use Rattle.refusals.specs.Table.{Row, whenever, verdict, plan_table}
-use Rattle.refusals.specs.declared.Verdict.{Verdict}
+use Rattle.refusals.specs.declared.Refusal.{Refusal}
+use Rattle.refusals.specs.declared.Reason.TheVariants.{SheetRoom}
 use Rattle.register.specs.Areas.{Areas, zeroed_to}
 use Rattle.register.specs.Lists.{fibre_list, assignment_list}
-use Rattle.planner.specs.Outcome.{plan_of, numbers_of, answer_by, if_accepted}
-use Rattle.planner.specs.declared.Answer.{Answer}
+use Rattle.planner.specs.Outcome.{Answer, plan_of, numbers_of, answer_by, if_accepted}
 use Rattle.whole_sheet.specs.Cells.{cell_count, sheet_list}
 
 -- 21: the sheet has more than 65,536 cells, or the lent sheet is shorter
 abbrev pub row21 : ℕ → ℕ → Row
-row21 count has = whenever 21 (ltb 65536 count || ltb has count)
+row21 count has = whenever SheetRoom (ltb 65536 count || ltb has count)
 
 -- how many cells the sheet of a file of circuits on a line has
 abbrev pub count_for : Line → List ℕ → ℕ
@@ -28,7 +28,7 @@ abbrev pub whole_for : Line → List ℕ → Areas → List ℕ → List Row
 whole_for line s lent sheet = whole_table line s (length lent.fibres) (length lent.assigns) (length lent.work) (length sheet)
 
 -- the verdict of the tests: the first refusal that applies, or else how many circuits there are
-unfoldable pub judged_whole : Line → List ℕ → Areas → List ℕ → Verdict
+unfoldable pub judged_whole : Line → List ℕ → Areas → List ℕ → Result ℕ Refusal
 judged_whole line s lent sheet = verdict (whole_for line s lent sheet) (length s / 8)
 
 -- the answer and every byte of the four lent areas: those of `plan`, and the sheet

@@ -1,7 +1,7 @@
 -- The promise of the whole-sheet engine, about what a caller sees: the answer and the bytes of the lent areas. `proofs/WholeDemands.antt` shows `whole_seen`, that every
 -- call of `plan_whole` meets `WholeSeen`, and `same_plan`, that of `TwoEngines`, if the whole sheet is drawn, both plans are the same. What a reader must believe.
 -- Assumes nothing.
-use Rattle.std.specs.Prelude.{ℕ, ◌+◌, ◌-◌, ◌*◌, ◌/◌, ◌≤◌, ◌<◌, true, List, ◌≢◌, ◌⊎◌, ◌≡◌, length, get_or, take, drop}
+use Rattle.std.specs.Prelude.{ℕ, ◌+◌, ◌-◌, ◌*◌, ◌/◌, ◌≤◌, ◌<◌, true, List, ◌≢◌, ◌⊎◌, ◌≡◌, length, get_or, take, drop, Ok}
 use Rattle.std.proofs.Math.Option.{some}
 use Rattle.records.specs.Records.{circuits_of}
 use Rattle.records.specs.declared.Circuit.{Circuit}
@@ -11,13 +11,12 @@ use Rattle.method.specs.Line.{Plan, assigned, circuit, fibre_under, uses}
 use Rattle.method.specs.Sheet.{blue, need, red, taken}
 use Rattle.refusals.specs.Ends.{TellsEnd}
 use Rattle.refusals.specs.Given.{Given, NoneApplies}
-use Rattle.refusals.specs.Refusals.{Refusal}
+use Rattle.refusals.specs.Refusals.{refusal_in}
+use Rattle.refusals.specs.declared.Refusal.{Refusal}
 use Rattle.register.specs.Areas.{Areas}
 use Rattle.register.specs.declared.Counts.{Counts}
-use Rattle.planner.specs.Outcome.{Outcome, refusal_of}
+use Rattle.planner.specs.Outcome.{Answer, Outcome}
 use Rattle.planner.specs.Seen.{Seen2, Seen3, held}
-use Rattle.planner.specs.declared.Answer.{Answer}
-use Rattle.planner.specs.declared.Answer.TheVariants.{Planned}
 use Rattle.whole_sheet.specs.Cells.{cell_count, cells, row_count}
 use Rattle.whole_sheet.specs.WholeOutcome.{WholeOutcome, whole_for}
 
@@ -60,11 +59,11 @@ module _ (n w : ℕ) (cs : List Circuit) (p : Plan) (sheet : List ℕ) where
 module _ (line : Line) (s : List ℕ) (before after : Areas) (sheet sheet' : List ℕ) where
   -- demand 1: a refusal is given exactly as tabled, tells the wrong end, and then no byte is changed
   pub record WholeSeen1 (answer : Answer) : Type 0 where
-    pub as_tabled : (r : Refusal) → refusal_of answer ≡ some r → Given (whole_for line s before sheet) r
-    pub whenever_tabled : (r : Refusal) → Given (whole_for line s before sheet) r → refusal_of answer ≡ some r
-    pub otherwise_planned : NoneApplies (whole_for line s before sheet) → (counts : Counts) × (answer ≡ Planned counts)
-    pub end_told : (r : Refusal) → refusal_of answer ≡ some r → TellsEnd line.links (length s / 8) s r
-    pub unchanged : (r : Refusal) → refusal_of answer ≡ some r → (after ≡ before) × (sheet' ≡ sheet)
+    pub as_tabled : (r : Refusal) → refusal_in answer ≡ some r → Given (whole_for line s before sheet) r
+    pub whenever_tabled : (r : Refusal) → Given (whole_for line s before sheet) r → refusal_in answer ≡ some r
+    pub otherwise_planned : NoneApplies (whole_for line s before sheet) → (counts : Counts) × (answer ≡ Ok counts)
+    pub end_told : (r : Refusal) → refusal_in answer ≡ some r → TellsEnd line.links (length s / 8) s r
+    pub unchanged : (r : Refusal) → refusal_in answer ≡ some r → (after ≡ before) × (sheet' ≡ sheet)
 
   -- the sheet is at most 65,536 cells, beside the plan that the lists hold it means what it should, the same records in another file order have the same sheet, and
   -- the bytes behind it stay
@@ -78,9 +77,9 @@ module _ (line : Line) (s : List ℕ) (before after : Areas) (sheet sheet' : Lis
   -- demand 1 in any case; of the three numbers that it answers, the demands on R-1's plan, and the sheet
   pub record WholeSeen (answer : Answer) : Type 0 where
     pub demand_1 : WholeSeen1 answer
-    pub demand_2 : (counts : Counts) → answer ≡ Planned counts → Seen2 line s before after counts
-    pub demand_3 : (counts : Counts) → answer ≡ Planned counts → Seen3 line s before after counts
-    pub sheet_seen : (counts : Counts) → answer ≡ Planned counts → SheetSeen counts
+    pub demand_2 : (counts : Counts) → answer ≡ Ok counts → Seen2 line s before after counts
+    pub demand_3 : (counts : Counts) → answer ≡ Ok counts → Seen3 line s before after counts
+    pub sheet_seen : (counts : Counts) → answer ≡ Ok counts → SheetSeen counts
 
 -- TWO CALLS, of `plan` and of `plan_whole`, with the same line, circuit bytes and lent areas
 pub record TwoEngines (line : Line) (s : List ℕ) (before after after' : Areas) (sheet sheet' : List ℕ) (answer answer' : Answer) : Type 0 where
@@ -89,7 +88,7 @@ pub record TwoEngines (line : Line) (s : List ℕ) (before after after' : Areas)
 
 -- both planned the same: the three numbers, and every byte of the fibre list, the assignment list and the work area
 pub record SamePlan (after after' : Areas) (counts : Counts) (answer : Answer) : Type 0 where
-  pub same_answer : answer ≡ Planned counts
+  pub same_answer : answer ≡ Ok counts
   pub same_fibres : after.fibres ≡ after'.fibres
   pub same_assigns : after.assigns ≡ after'.assigns
   pub same_work : after.work ≡ after'.work

@@ -3,32 +3,23 @@ ghost use Rattle.std.specs.Prelude.{◌≡◌, ◌/◌, length};
 ghost use Rattle.refusals.specs.Table.{tested, verdict};
 ghost use Rattle.whole_sheet.specs.WholeOutcome.{row21, whole_table};
 
+use crate::choice::Size;
 use crate::loads;
 use records::Line;
-use refusals::Verdict;
+use refusals::{Reason, Refusal};
 
 // 21: the sheet has at most 65,536 cells, and the lent sheet a byte for each.
-fn sheet_room(cells: usize, has: usize) -> Verdict
+fn sheet_room(cells: usize, has: usize) -> Result<usize, Refusal>
     ensures { result ≡ tested (row21 cells has) has }
 {
-    if 65536 < cells {
-        return Verdict::Refused {
-            number: 21,
-            place: 0,
-            end: 0,
-        };
+    if 65536 < cells || has < cells {
+        return Err(Refusal::at_large(Reason::SheetRoom));
     }
-    if has < cells {
-        return Verdict::Refused {
-            number: 21,
-            place: 0,
-            end: 0,
-        };
-    }
-    Verdict::Checked(has)
+    Ok(has)
 }
 
 // All tests, with the lengths of the lent areas. What is found: how many circuits.
+#[tactic(auto, unfolding(crate::specs::WholeOutcome::whole_table, refusals::specs::Table::verdict), using(refusals::proofs::Chain::piece_gives))]
 pub fn of_whole(
     line: Line,
     circuits: &[u8],
@@ -36,18 +27,16 @@ pub fn of_whole(
     assigns: usize,
     work: usize,
     sheet: usize,
-) -> Verdict
+) -> Result<usize, Refusal>
     ensures { result ≡ verdict (whole_table line circuits.now fibres assigns work sheet) (length circuits.now / 8) }
 {
-    let m = circuits.len() / 8;
-    let of_plan = planner::admit::of_plan(line, circuits, fibres, assigns, work);
-    let Verdict::Checked(_) = of_plan else {
-        return of_plan;
+    let m = planner::admit::of_plan(line, circuits, fibres, assigns, work)?;
+    let size = Size {
+        links: line.links,
+        wavelengths: line.wavelengths,
+        circuits: m,
     };
-    let top = loads::most_of(circuits, m, line.links, line.wavelengths);
-    let t21 = sheet_room(line.links * (top * line.wavelengths), sheet);
-    let Verdict::Checked(_) = t21 else {
-        return t21;
-    };
-    Verdict::Checked(m)
+    let top = loads::most_of(size, circuits);
+    sheet_room(line.links * (top * line.wavelengths), sheet)?;
+    Ok(m)
 }

@@ -1,4 +1,5 @@
 // The whole-sheet engine: it keeps every row of the sheet in a lent area. It is there to be read, so each step is done as the scope of work says it.
+// The lent areas go one by one: a struct that holds them by reference makes clauses say `.entry.` of each field.
 #![tactic(auto)]
 
 mod admit;
@@ -19,43 +20,29 @@ ghost use Rattle.whole_sheet.specs.Cells.{cell_count, sheet_list};
 ghost use Rattle.whole_sheet.specs.WholeOutcome.{WholeOutcome};
 
 use crate::choice::Size;
-use planner::Answer;
 use records::Line;
-use refusals::Verdict;
+use refusals::Refusal;
 use register::{Counts, Job};
 
 // Everything is zeroed, so that every circuit waits, and c(i) of each link is counted.
-fn prepare(n: usize, m: usize, w: usize, circuits: &[u8], work: &mut [u8])
-    requires accepted { Accepted n w m circuits.now }
-    requires work_len { length work.old ≡ 4 * n + 4 * m }
-    ensures { Counted n m w (circuits_in m circuits.now) work.new }
+fn prepare(size: Size, circuits: &[u8], work: &mut [u8])
+    requires accepted { Accepted size.links size.wavelengths size.circuits circuits.now }
+    requires work_len { length work.old ≡ 4 * size.links + 4 * size.circuits }
+    ensures { Counted size.links size.circuits size.wavelengths (circuits_in size.circuits circuits.now) work.new }
 {
-    let k = 4 * n + 4 * m;
-    records::cells::zero(work, k);
-    let a = 2 * n;
-    loads::write_needs(circuits, m, n, w, &mut work[0..a]);
+    work.fill(0);
+    loads::write_needs(size, circuits, &mut work[..2 * size.links]);
 }
 
 // Phase one: the sheet row by row; M is handed back.
-fn fill_whole(
-    n: usize,
-    w: usize,
-    m: usize,
-    circuits: &[u8],
-    work: &mut [u8],
-    sheet: &mut [u8],
-) -> usize
-    requires accepted { Accepted n w m circuits.now }
-    requires work_len { (length work.old ≡ 4 * n + 4 * m) × (cell_count n w (circuits_in m circuits.now) ≤ length sheet.old) }
-    ensures { (result ≡ most n w (circuits_in m circuits.now)) × Filled n w m circuits.now work.new × (sheet.new ≡ sheet_list n w (circuits_in m circuits.now) sheet.old) }
+fn fill_whole(size: Size, circuits: &[u8], work: &mut [u8], sheet: &mut [u8]) -> usize
+    requires accepted { Accepted size.links size.wavelengths size.circuits circuits.now }
+    requires room { (length work.old ≡ 4 * size.links + 4 * size.circuits) × (cell_count size.links size.wavelengths (circuits_in size.circuits circuits.now) ≤ length sheet.old) }
+    ensures { (result ≡ most size.links size.wavelengths (circuits_in size.circuits circuits.now)) × Filled size.links size.wavelengths size.circuits circuits.now work.new × (sheet.new ≡ sheet_list size.links size.wavelengths (circuits_in size.circuits circuits.now) sheet.old) }
 {
-    let top = loads::most_of(circuits, m, n, w);
-    prepare(n, m, w, circuits, work);
-    let size = Size {
-        links: n,
-        circuits: m,
-    };
-    table::all_rows(size, w, top, circuits, work, sheet);
+    let top = loads::most_of(size, circuits);
+    prepare(size, circuits, work);
+    table::all_rows(size, top, circuits, work, sheet);
     top
 }
 
@@ -69,21 +56,19 @@ fn settle_whole(
     sheet: &mut [u8],
 ) -> Counts
     requires admitted { Admitted job.links job.wavelengths job.circuits job.from circuits.now (areas fibres.old assigns.old work.old) }
-    requires circuits_in_bounds { cell_count job.links job.wavelengths (circuits_in job.circuits circuits.now) ≤ length sheet.old }
+    requires room { cell_count job.links job.wavelengths (circuits_in job.circuits circuits.now) ≤ length sheet.old }
     ensures settled { Settled job.links job.wavelengths job.circuits job.from circuits.now (areas fibres.old assigns.old work.old) (areas fibres.new assigns.new work.new) result }
     ensures sheet_after { sheet.new ≡ sheet_list job.links job.wavelengths (circuits_in job.circuits circuits.now) sheet.old }
 {
     let k = 4 * job.links + 4 * job.circuits;
-    let top = fill_whole(
-        job.links,
-        job.wavelengths,
-        job.circuits,
-        circuits,
-        &mut work[0..k],
-        sheet,
-    );
-    let counts = strands::lay(job, top, circuits, fibres, assigns, &mut work[0..k]);
-    records::cells::zero(work, k);
+    let size = Size {
+        links: job.links,
+        wavelengths: job.wavelengths,
+        circuits: job.circuits,
+    };
+    let top = fill_whole(size, circuits, &mut work[..k], sheet);
+    let counts = strands::lay(job, top, circuits, fibres, assigns, &mut work[..k]);
+    work[..k].fill(0);
     counts
 }
 
@@ -95,27 +80,17 @@ pub fn plan_whole(
     assigns: &mut [u8],
     work: &mut [u8],
     sheet: &mut [u8],
-) -> Answer
+) -> Result<Counts, Refusal>
     ensures { WholeOutcome line circuits.now (areas fibres.old assigns.old work.old) (areas fibres.new assigns.new work.new) sheet.old sheet.new result }
 {
-    let t = admit::of_whole(
+    let m = admit::of_whole(
         line,
         circuits,
         fibres.len(),
         assigns.len(),
         work.len(),
         sheet.len(),
-    );
-    match t {
-        Verdict::Refused { number, place, end } => Answer::Refused { number, place, end },
-        Verdict::Checked(m) => {
-            let job = Job {
-                links: line.links,
-                wavelengths: line.wavelengths,
-                circuits: m,
-                from: 0,
-            };
-            Answer::Planned(settle_whole(job, circuits, fibres, assigns, work, sheet))
-        }
-    }
+    )?;
+    let job = Job::on(line, m, 0);
+    Ok(settle_whole(job, circuits, fibres, assigns, work, sheet))
 }

@@ -1,4 +1,5 @@
 // The sheet, row by row, each step as the scope of work has it.
+// The lent areas go one by one: a struct that holds them by reference makes clauses say `.entry.` of each field.
 ghost use Rattle.std.specs.Prelude.{◌+◌, ◌-◌, ◌*◌, ◌<◌, ◌≤◌, ◌≡◌, length, take};
 ghost use Rattle.records.specs.Bytes.{cells_of};
 ghost use Rattle.method.specs.Sheet.{run_from};
@@ -7,18 +8,19 @@ ghost use Rattle.rows.specs.inner.Loops.{Written};
 ghost use Rattle.whole_sheet.specs.inner.Board.{Board, AtRun, BroughtTo, placed_state, Stepped, RowFilled};
 ghost use Rattle.whole_sheet.specs.inner.Tables.{above_at, start_as, start_at, Sources, TableAfter, KeptBehind};
 
-use crate::choice::{Choice, Size};
+use crate::choice::Size;
 use crate::colours::Run;
 use crate::{choice, colours};
+use records::Circuit;
 
 // Circuit j is placed in row k: its links within the run become taken.
 fn place(size: Size, k: u16, j: usize, run: Run, circuits: &[u8], work: &mut [u8], row: &mut [u8])
     requires { Board size.links size.circuits circuits.now work.old row.old × AtRun size.links row.old run × (j < size.circuits) }
     ensures { BroughtTo size.links size.circuits (placed_state size.links size.circuits k j circuits.now work.old row.old) work.old work.new row.new }
 {
-    let c = records::circuit_at(circuits, j);
+    let c = records::record_at::<Circuit>(circuits, j);
     records::cells::put(work, 2 * size.links + j, k);
-    colours::take_links(row, size.links, run, c);
+    colours::take_links(row, run, c);
 }
 
 // One step of row k, on the run that starts at l. If none fits, every link of the run becomes blue.
@@ -26,12 +28,11 @@ fn one_step(size: Size, k: u16, l: usize, circuits: &[u8], work: &mut [u8], row:
     requires { Board size.links size.circuits circuits.now work.old row.old × (l ≡ run_from size.links row.old) × (l ≤ size.links) }
     ensures { Stepped size.links size.circuits k circuits.now work.old row.old work.new row.new }
 {
-    let past = colours::first_closed(row, size.links, l);
+    let past = colours::first_closed(row, l);
     let run = Run { from: l, past };
-    let found = choice::lowest_fit(size, run, circuits, work, row);
-    match found {
-        Choice::Lowest(j) => place(size, k, j, run, circuits, work, row),
-        Choice::Nobody => colours::turn_blue(row, size.links, run),
+    match choice::lowest_fit(size, run, circuits, work, row) {
+        Some(j) => place(size, k, j, run, circuits, work, row),
+        None => colours::turn_blue(row, run),
     }
 }
 
@@ -40,10 +41,8 @@ fn fill_row(size: Size, k: u16, circuits: &[u8], work: &mut [u8], row: &mut [u8]
     requires { Board size.links size.circuits circuits.now work.old row.old }
     ensures { RowFilled size.links size.circuits k circuits.now work.old row.old work.new row.new }
 {
-    let mut l = colours::first_open(row, size.links);
-    while l <= size.links {
+    while let Some(l) = colours::first_open(row) {
         one_step(size, k, l, circuits, work, row);
-        l = colours::first_open(row, size.links);
     }
 }
 
@@ -72,54 +71,42 @@ fn starting(k: usize, reds: usize, was: u8) -> u8
 }
 
 // Row k begins.
-fn begin_row(n: usize, w: usize, top: usize, k: usize, work: &[u8], sheet: &mut [u8])
-    requires { (1 ≤ k) × (k ≤ 2127) × (n ≤ 512) × (top * w ≤ 2127) × (2 * n ≤ length work.now) × Below top (take n (cells_of work.now)) × (n * (k - 1) + n ≤ length sheet.old) }
-    ensures { Written (start_at n w top k (cells_of work.now) sheet.old) (n * (k - 1) + 1) (n * (k - 1) + (n + 1)) sheet.old sheet.new }
+fn begin_row(size: Size, top: usize, k: usize, work: &[u8], sheet: &mut [u8])
+    requires { (1 ≤ k) × (k ≤ 2127) × (size.links ≤ 512) × (top * size.wavelengths ≤ 2127) × (2 * size.links ≤ length work.now) × Below top (take size.links (cells_of work.now)) × (size.links * (k - 1) + size.links ≤ length sheet.old) }
+    ensures { Written (start_at size.links size.wavelengths top k (cells_of work.now) sheet.old) (size.links * (k - 1) + 1) (size.links * (k - 1) + (size.links + 1)) sheet.old sheet.new }
 {
+    let n = size.links;
     let a = n * (k - 1);
-    let e = n + 1;
-    for i in 1..e {
-        let c = records::numbers::index(records::cells::get(work, i - 1));
+    for i in 1..n + 1 {
+        let c = usize::from(records::cells::get(work, i - 1));
         let was = above(sheet, n, a, i);
-        sheet[a + i - 1] = starting(k, (top - c) * w, was);
+        sheet[a + i - 1] = starting(k, (top - c) * size.wavelengths, was);
     }
 }
 
 // Row k, from the row above it.
-fn one_row(
-    size: Size,
-    w: usize,
-    top: usize,
-    k: usize,
-    circuits: &[u8],
-    work: &mut [u8],
-    sheet: &mut [u8],
-)
-    requires sources { Sources size.links w size.circuits top circuits.now work.old sheet.old × (1 ≤ k) × (k ≤ top * w) }
-    requires table_after { TableAfter size.links w size.circuits (k - 1) circuits.now work.old sheet.old }
-    ensures { Sources size.links w size.circuits top circuits.now work.new sheet.new × TableAfter size.links w size.circuits k circuits.now work.new sheet.new × KeptBehind (size.links * k) sheet.old sheet.new }
+fn one_row(size: Size, top: usize, k: usize, circuits: &[u8], work: &mut [u8], sheet: &mut [u8])
+    requires sources { Sources size.links size.wavelengths size.circuits top circuits.now work.old sheet.old × (1 ≤ k) × (k ≤ top * size.wavelengths) }
+    requires table_after { TableAfter size.links size.wavelengths size.circuits (k - 1) circuits.now work.old sheet.old }
+    ensures { Sources size.links size.wavelengths size.circuits top circuits.now work.new sheet.new × TableAfter size.links size.wavelengths size.circuits k circuits.now work.new sheet.new × KeptBehind (size.links * k) sheet.old sheet.new }
 {
     let n = size.links;
-    begin_row(n, w, top, k, work, sheet);
-    let a = n * (k - 1);
-    let e = n * k;
-    fill_row(size, k as u16, circuits, work, &mut sheet[a..e]);
+    begin_row(size, top, k, work, sheet);
+    fill_row(
+        size,
+        k as u16,
+        circuits,
+        work,
+        &mut sheet[n * (k - 1)..n * k],
+    );
 }
 
 // All rows, to the last.
-pub fn all_rows(
-    size: Size,
-    w: usize,
-    top: usize,
-    circuits: &[u8],
-    work: &mut [u8],
-    sheet: &mut [u8],
-)
-    requires { Sources size.links w size.circuits top circuits.now work.old sheet.old × TableAfter size.links w size.circuits 0 circuits.now work.old sheet.old }
-    ensures { Sources size.links w size.circuits top circuits.now work.new sheet.new × TableAfter size.links w size.circuits (top * w) circuits.now work.new sheet.new × KeptBehind (size.links * (top * w)) sheet.old sheet.new }
+pub fn all_rows(size: Size, top: usize, circuits: &[u8], work: &mut [u8], sheet: &mut [u8])
+    requires { Sources size.links size.wavelengths size.circuits top circuits.now work.old sheet.old × TableAfter size.links size.wavelengths size.circuits 0 circuits.now work.old sheet.old }
+    ensures { Sources size.links size.wavelengths size.circuits top circuits.now work.new sheet.new × TableAfter size.links size.wavelengths size.circuits (top * size.wavelengths) circuits.now work.new sheet.new × KeptBehind (size.links * (top * size.wavelengths)) sheet.old sheet.new }
 {
-    let e = top * w + 1;
-    for k in 1..e {
-        one_row(size, w, top, k, circuits, work, sheet);
+    for k in 1..top * size.wavelengths + 1 {
+        one_row(size, top, k, circuits, work, sheet);
     }
 }

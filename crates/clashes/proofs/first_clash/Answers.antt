@@ -14,20 +14,8 @@ pub loop-low-init : goal.loop-low-init
 loop-low-init c = let a = c.args in let e = sym c.clashes_below.ensures ∙ c.if-not-clashes_below.false in
     (some_of (clashes_in a.circuits.now a.assigns.now) a.p e, search rules, none_of_none (clashes_in a.circuits.now a.assigns.now), e)
 
-pub overflow_add-low : goal.overflow_add-low
-overflow_add-low c = let p = c.requires in let u = p.few in omega arith
-
-pub overflow_add-middle : goal.overflow_add-middle
-overflow_add-middle c = let p = c.requires in let u = p.few in omega arith
-
 pub clashes_below-requires-in-loop-low : goal.clashes_below-requires-in-loop-low
 clashes_below-requires-in-loop-low c = placed_part _ (omega arith) c.requires
-
-pub loop-low-preserved-then-clashes_below : goal.loop-low-preserved-then-clashes_below
-loop-low-preserved-then-clashes_below c = let l = c.loop-low in (omega arith, omega arith, l.invariant.2, sym c.clashes_below-in-loop-low.ensures ∙ c.if-clashes_below.true)
-
-pub loop-low-preserved : goal.loop-low-preserved
-loop-low-preserved c = let l = c.loop-low in (omega arith, omega arith, sym c.clashes_below-in-loop-low.ensures ∙ c.if-clashes_below.false, l.invariant.3)
 
 pub returns : goal.returns
 returns c = let a = c.args in let l = c.loop-low in

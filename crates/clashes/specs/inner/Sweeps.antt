@@ -16,18 +16,17 @@ abbrev pub ApartTo : ℕ → ℕ → List ℕ → List ℕ → Type 0
 ApartTo o q s assigns = (j : ℕ) → j < q → 1 ≤ fibre_in assigns j → fibre_in assigns j ≤ o → clashes_in s assigns j ≡ false
 
 -- the first q circuits, on the line and with wavelengths of at most 80, stand in chains by fibre
-pub record Chains (q : ℕ) (s assigns next heads : List ℕ) : Type 0 where
+pub record InChains (q : ℕ) (s assigns next heads : List ℕ) : Type 0 where
   pub few : q ≤ 2048
   pub file : 8 * q ≤ length s
   pub listed : 8 * q ≤ length assigns
-  pub room : q ≤ length next
   pub lies : Lies 512 (circuits_in q s)
   pub waves : (j : ℕ) → j < q → wave_in assigns j ≤ 80
   pub chained : Chained (circuits_in q s) (fibre_in assigns) next heads
 
 -- some first circuits stand in chains by fibre
 abbrev pub SomeChains : List ℕ → List ℕ → List ℕ → List ℕ → Type 0
-SomeChains s assigns next heads = (q : ℕ) × Chains q s assigns next heads
+SomeChains s assigns next heads = (q : ℕ) × InChains q s assigns next heads
 
 -- of the circuits on fibre f, those that stand before t are walked: reach has, for each wavelength, the farthest last link of these, or 0; and each begins past
 -- those before it that have its wavelength

@@ -1,20 +1,13 @@
--- `entry_text::write_line` meets its contract. Assumes nothing.
-use native.Mathlib.Omega.{arith}
-use Rattle.entry_text.proofs.PairLaws.{three_cells, named_bytes, unnamed_bytes}
+-- `write_line` meets its contract: two cells, or three where the grid is named. Assumes nothing.
+use Rattle.std.proofs.Common.{arith}
+use Rattle.entry_text.specs.Pair.{header_bytes}
+use Rattle.entry_text.proofs.PairLaws.{two_cells, three_cells}
 use Rattle.entry_text.proofs.write_line.Goals as goal
 
-pub returns-then-header : goal.returns-then-header
-returns-then-header c =
-    let put = c.put in
-    let put2 = c.put-2 in
-    let put3 = c.put-3 in
-    let if1 = c.if-header in
-    (named_bytes _ _ _ _ _ (three_cells _ _ _ _ _ _ _ c.requires put.ensures put2.ensures put3.ensures) if1.true, omega arith)
+pub returns-in_default : goal.returns-in_default
+unfolding header_bytes
+returns-in_default c = (rw c.in_default.is (two_cells _ _ _ _ _ 1 c.requires c.put.ensures c.put-2.ensures), omega arith)
 
 pub returns : goal.returns
-returns c =
-    let put = c.put in
-    let put2 = c.put-2 in
-    let put3 = c.put-3 in
-    let if1 = c.if-header in
-    (unnamed_bytes _ _ _ _ _ (three_cells _ _ _ _ _ _ _ c.requires put.ensures put2.ensures put3.ensures) if1.false, omega arith)
+unfolding header_bytes
+returns c = (rw c.in-Some.is (three_cells _ _ _ _ _ _ _ c.requires c.put.ensures c.put-2.ensures c.put-3.ensures), omega arith)

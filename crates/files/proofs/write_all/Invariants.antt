@@ -1,9 +1,6 @@
--- `write_all`: what is done stays within the buffer. Each call counts the turns down. Assumes nothing.
+-- `write_all`: what is done stays within the buffer. Assumes nothing.
 use Rattle.std.proofs.Common.{◌≤◌, length}
 use Rattle.files.proofs.write_all.Given as goal
 
-abbrev pub invariant-loop-done : goal.invariant-loop-done
-invariant-loop-done g l = l.done ≤ length l.buf
-
-abbrev pub decreases-loop-done : goal.decreases-loop-done
-decreases-loop-done g l = l.turns
+abbrev pub invariant-loop : goal.invariant-loop
+invariant-loop g l = l.done ≤ length l.buf

@@ -22,13 +22,13 @@ factors g v x y h p q =
 pub overflow_mul-result : goal.overflow_mul-result
 overflow_mul-result c =
     let a = c.args in
-    rw (factors a.grid a.v _ _ (omega arith) c.spacing-s.ensures c.channel-c.ensures) (product_fits a.grid a.v (omega arith))
+    rw (factors a.grid a.v _ _ (omega arith) c.spacing.ensures c.channel.ensures) (product_fits a.grid a.v (omega arith))
 
 pub overflow_add-result : goal.overflow_add-result
 unfolding frequency_of
 overflow_add-result c =
     let a = c.args in
-    rw (factors a.grid a.v _ _ (omega arith) c.spacing-s.ensures c.channel-c.ensures, to_z-of_z (product_fits a.grid a.v (omega arith)))
+    rw (factors a.grid a.v _ _ (omega arith) c.spacing.ensures c.channel.ensures, to_z-of_z (product_fits a.grid a.v (omega arith)))
     (frequency_fits a.grid a.v (omega arith))
 
 pub overflow_cast-result : goal.overflow_cast-result
@@ -36,7 +36,7 @@ unfolding frequency_of
 overflow_cast-result c =
     let a = c.args in
     let read = frequency_fits a.grid a.v (omega arith) in
-    rw (factors a.grid a.v _ _ (omega arith) c.spacing-s.ensures c.channel-c.ensures, to_z-of_z (product_fits a.grid a.v (omega arith)), to_z-of_z read)
+    rw (factors a.grid a.v _ _ (omega arith) c.spacing.ensures c.channel.ensures, to_z-of_z (product_fits a.grid a.v (omega arith)), to_z-of_z read)
     (frequency_pos a.grid a.v, Fits-nat_abs tt read)
 
 pub returns : goal.returns
@@ -44,5 +44,5 @@ unfolding frequency_of
 returns c =
     let a = c.args in
     let read = frequency_fits a.grid a.v (omega arith) in
-    rw (factors a.grid a.v _ _ (omega arith) c.spacing-s.ensures c.channel-c.ensures, to_z-of_z (product_fits a.grid a.v (omega arith)), to_z-of_z read)
+    rw (factors a.grid a.v _ _ (omega arith) c.spacing.ensures c.channel.ensures, to_z-of_z (product_fits a.grid a.v (omega arith)), to_z-of_z read)
     (pos-nat_abs _ (frequency_pos a.grid a.v))

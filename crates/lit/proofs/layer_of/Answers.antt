@@ -25,13 +25,10 @@ overflow_sub-result c =
     let p = c.requires.row in
     omega arith
 
-pub overflow_add-result : goal.overflow_add-result
-overflow_add-result c = let h = div-le_self (c.index-row.result / 2 - 1) c.args.job.wavelengths in omega arith
-
 pub returns : goal.returns
 unfolding layer_of
 returns c =
     let a = c.args in
     let e = row_is a.job.links a.job.wavelengths a.job.circuits a.j c.get.result a.work.now c.requires c.get.ensures in
-    let h = div-le_self (c.index-row.result / 2 - 1) a.job.wavelengths in
-    (add-one ((c.index-row.result / 2 - 1) / a.job.wavelengths) ∙ ap (λ (v : ℕ). suc ((v / 2 - 1) / a.job.wavelengths)) (c.index-row.ensures.0 ∙ e), omega arith)
+    let h = div-le_self (c.from-row.result / 2 - 1) a.job.wavelengths in
+    (add-one ((c.from-row.result / 2 - 1) / a.job.wavelengths) ∙ ap (λ (v : ℕ). suc ((v / 2 - 1) / a.job.wavelengths)) (c.from-row.ensures ∙ e), omega arith)

@@ -1,156 +1,112 @@
 -- `runs_of` meets its contract: each turn sweeps the circuit that comes next along the chain. Assumes nothing.
-use Prim.Native.Nat.{suc, ◌-◌}
-use mathlib.Core.Path.{◌≡◌, refl, ◌∙◌}
+use Prim.Native.Nat.{suc}
+use mathlib.Core.Path.{◌≡◌, refl, ap, sym, ◌∙◌}
 use native.Mathlib.Omega.{arith}
+use lib.ListN.{get_or}
+use Rattle.records.specs.Chains.{entry_of}
+use Rattle.chains.proofs.Walks.{entry_is}
 use Rattle.lit.proofs.Asks.{walk_start, walk_end, there, has_row, layer_is, asked, number_low, walk_falls, walk_turn}
 use Rattle.lit.proofs.runs_of.Goals as goal
 
-pub returns-then-head-eq0 : goal.returns-then-head-eq0
-returns-then-head-eq0 c =
+pub returns-in_default : goal.returns-in_default
+returns-in_default c =
     let a = c.args in
     let f = c.requires.swept_some.file in
-    λ x g s. walk_end a.job.circuits a.circuits.now f g (omega arith) (walk_start a.job.circuits a.circuits.now f g c.requires.o_in_bounds.0 c.index-head.ensures.0 s)
+    λ x g s. walk_end a.job.circuits a.circuits.now f g (ap entry_of c.in_default.is) (walk_start a.job.circuits a.circuits.now f g a.o (entry_is _ _ c.first-at.ensures) s)
 
 pub layer_of-layer-requires : goal.layer_of-layer-requires
 layer_of-layer-requires c =
     let a = c.args in
     let p = c.requires.swept_some in
-    let y : c.index-head.result ≡ suc (c.index-head.result - 1) = omega arith in
-    has_row a.job.circuits a.circuits.now p.file p.ground c.requires.o_in_bounds.1 y (walk_start a.job.circuits a.circuits.now p.file p.ground c.requires.o_in_bounds.0 c.index-head.ensures.0 p.swept)
+    let y : suc c.in-Some.head ≡ get_or a.chains.now.heads a.o 0 = sym (ap entry_of c.in-Some.is) ∙ entry_is _ _ c.first-at.ensures in
+    has_row a.job.circuits a.circuits.now p.file p.ground c.requires.fibre refl (walk_start a.job.circuits a.circuits.now p.file p.ground a.o y p.swept)
 
-pub loop-z-init : goal.loop-z-init
-loop-z-init c =
+pub loop-at-init : goal.loop-at-init
+loop-at-init c =
     let a = c.args in
-    (refl, refl, λ x g s. walk_start a.job.circuits a.circuits.now c.requires.swept_some.file g c.requires.o_in_bounds.0 c.index-head.ensures.0 s)
+    let y : suc c.in-Some.head ≡ get_or a.chains.now.heads a.o 0 = sym (ap entry_of c.in-Some.is) ∙ entry_is _ _ c.first-at.ensures in
+    (λ x g s. walk_start a.job.circuits a.circuits.now c.requires.swept_some.file g a.o y s)
 
-pub circuit_at-c-requires : goal.circuit_at-c-requires
-circuit_at-c-requires c =
+pub record_at-c-requires : goal.record_at-c-requires
+record_at-c-requires c =
     let a = c.args in
-    let l = c.loop-z in
+    let l = c.loop-at in
     let p = c.requires.swept_some in
-    let low = c.requires.o_in_bounds.1 in
-    let here : l.z ≡ suc (l.z - 1) = omega arith in
-    let g = l.invariant.2 p.origin p.ground p.swept in
+    let low = c.requires.fibre in
+    let here : entry_of l.at ≡ suc c.in-Some-at.j = ap entry_of c.in-Some-at.is in
+    let g = l.invariant p.origin p.ground p.swept in
+    let t = there a.job.circuits a.circuits.now p.file p.ground low here g in
+    omega arith
+
+pub after-at-requires : goal.after-at-requires
+after-at-requires c =
+    let a = c.args in
+    let l = c.loop-at in
+    let p = c.requires.swept_some in
+    let low = c.requires.fibre in
+    let here : entry_of l.at ≡ suc c.in-Some-at.j = ap entry_of c.in-Some-at.is in
+    let g = l.invariant p.origin p.ground p.swept in
     let t = there a.job.circuits a.circuits.now p.file p.ground low here g in
     omega arith
 
 pub take_in-run-requires : goal.take_in-run-requires
 take_in-run-requires c =
     let a = c.args in
-    let l = c.loop-z in
+    let l = c.loop-at in
     let p = c.requires.swept_some in
-    let low = c.requires.o_in_bounds.1 in
-    let here : l.z ≡ suc (l.z - 1) = omega arith in
-    let g = l.invariant.2 p.origin p.ground p.swept in
-    asked a.job.circuits a.circuits.now p.file p.ground low here g c.layer_of-layer.ensures.1 c.circuit_at-c.ensures
-
-pub overflow_mul-j : goal.overflow_mul-j
-overflow_mul-j c =
-    let a = c.args in
-    let l = c.loop-z in
-    let p = c.requires.swept_some in
-    let low = c.requires.o_in_bounds.1 in
-    let here : l.z ≡ suc (l.z - 1) = omega arith in
-    let g = l.invariant.2 p.origin p.ground p.swept in
-    let t = there a.job.circuits a.circuits.now p.file p.ground low here g in
-    omega arith
-
-pub overflow_add-j : goal.overflow_add-j
-overflow_add-j c =
-    let a = c.args in
-    let l = c.loop-z in
-    let p = c.requires.swept_some in
-    let low = c.requires.o_in_bounds.1 in
-    let here : l.z ≡ suc (l.z - 1) = omega arith in
-    let g = l.invariant.2 p.origin p.ground p.swept in
-    let t = there a.job.circuits a.circuits.now p.file p.ground low here g in
-    omega arith
+    let low = c.requires.fibre in
+    let here : entry_of l.at ≡ suc c.in-Some-at.j = ap entry_of c.in-Some-at.is in
+    let g = l.invariant p.origin p.ground p.swept in
+    asked a.job.circuits a.circuits.now p.file p.ground low here g c.layer_of-layer.ensures.1 c.record_at-c.ensures
 
 pub overflow_add-job : goal.overflow_add-job
 overflow_add-job c =
     let a = c.args in
-    let l = c.loop-z in
+    let l = c.loop-at in
     let p = c.requires.swept_some in
-    let low = c.requires.o_in_bounds.1 in
-    let here : l.z ≡ suc (l.z - 1) = omega arith in
-    let g = l.invariant.2 p.origin p.ground p.swept in
+    let low = c.requires.fibre in
+    let here : entry_of l.at ≡ suc c.in-Some-at.j = ap entry_of c.in-Some-at.is in
+    let g = l.invariant p.origin p.ground p.swept in
     -- the new number fits
-    let q = number_low a.job.circuits a.circuits.now p.file p.ground low here g c.circuit_at-c.ensures c.take_in-run.ensures.0 in
+    let q = number_low a.job.circuits a.circuits.now p.file p.ground low here g c.record_at-c.ensures c.take_in-run.ensures.0 in
     omega arith
 
 pub overflow_cast-job : goal.overflow_cast-job
 overflow_cast-job c =
     let a = c.args in
-    let l = c.loop-z in
+    let l = c.loop-at in
     let p = c.requires.swept_some in
-    let low = c.requires.o_in_bounds.1 in
-    let here : l.z ≡ suc (l.z - 1) = omega arith in
-    let g = l.invariant.2 p.origin p.ground p.swept in
+    let low = c.requires.fibre in
+    let here : entry_of l.at ≡ suc c.in-Some-at.j = ap entry_of c.in-Some-at.is in
+    let g = l.invariant p.origin p.ground p.swept in
     -- the new number fits
-    let q = number_low a.job.circuits a.circuits.now p.file p.ground low here g c.circuit_at-c.ensures c.take_in-run.ensures.0 in
+    let q = number_low a.job.circuits a.circuits.now p.file p.ground low here g c.record_at-c.ensures c.take_in-run.ensures.0 in
     omega arith
 
-pub put-requires : goal.put-requires
-put-requires c =
+pub loop-at-smaller : goal.loop-at-smaller
+loop-at-smaller c =
     let a = c.args in
-    let l = c.loop-z in
+    let l = c.loop-at in
     let p = c.requires.swept_some in
-    let low = c.requires.o_in_bounds.1 in
-    let here : l.z ≡ suc (l.z - 1) = omega arith in
-    let g = l.invariant.2 p.origin p.ground p.swept in
-    let t = there a.job.circuits a.circuits.now p.file p.ground low here g in
-    omega arith
+    let low = c.requires.fibre in
+    let here : entry_of l.at ≡ suc c.in-Some-at.j = ap entry_of c.in-Some-at.is in
+    let g = l.invariant p.origin p.ground p.swept in
+    walk_falls a.job.circuits a.circuits.now p.file p.ground low here g (entry_is _ _ c.after-at.ensures)
 
-pub offset_bounds-next-j : goal.offset_bounds-next-j
-offset_bounds-next-j c =
+pub loop-at-preserved : goal.loop-at-preserved
+loop-at-preserved c =
     let a = c.args in
-    let l = c.loop-z in
-    let p = c.requires.swept_some in
-    let low = c.requires.o_in_bounds.1 in
-    let here : l.z ≡ suc (l.z - 1) = omega arith in
-    let g = l.invariant.2 p.origin p.ground p.swept in
-    let t = there a.job.circuits a.circuits.now p.file p.ground low here g in
-    omega arith
-
-pub bounds-next-j : goal.bounds-next-j
-bounds-next-j c =
-    let a = c.args in
-    let l = c.loop-z in
-    let p = c.requires.swept_some in
-    let low = c.requires.o_in_bounds.1 in
-    let here : l.z ≡ suc (l.z - 1) = omega arith in
-    let g = l.invariant.2 p.origin p.ground p.swept in
-    let t = there a.job.circuits a.circuits.now p.file p.ground low here g in
-    omega arith
-
-pub loop-z-smaller : goal.loop-z-smaller
-loop-z-smaller c =
-    let a = c.args in
-    let l = c.loop-z in
-    let p = c.requires.swept_some in
-    let low = c.requires.o_in_bounds.1 in
-    let here : l.z ≡ suc (l.z - 1) = omega arith in
-    let g = l.invariant.2 p.origin p.ground p.swept in
-    walk_falls a.job.circuits a.circuits.now p.file p.ground low here g c.index-z.ensures.0
-
-pub loop-z-preserved : goal.loop-z-preserved
-loop-z-preserved c =
-    let a = c.args in
-    let l = c.loop-z in
+    let l = c.loop-at in
     let f = c.requires.swept_some.file in
-    let low = c.requires.o_in_bounds.1 in
+    let low = c.requires.fibre in
     let t = c.take_in-run in
-    let here : l.z ≡ suc (l.z - 1) = omega arith in
-    let v = c.if-head-eq0.false in
-    let y : c.index-head.result ≡ suc (c.index-head.result - 1) = omega arith in (
-      t.auto.fibres ∙ l.invariant.0,
-      c.put.auto.work ∙ l.invariant.1,
-      λ x g s.
-          let k = layer_is a.job.circuits a.circuits.now f g low y (walk_start a.job.circuits a.circuits.now f g c.requires.o_in_bounds.0 c.index-head.ensures.0 s) c.layer_of-layer.ensures.0 in
-          walk_turn a.job.circuits a.circuits.now f g low here (l.invariant.2 x g s) c.circuit_at-c.ensures k c.index-z.ensures.0 t.ensures.0 t.ensures.1 t.auto.fibres c.put.ensures,
-    )
+    let here : entry_of l.at ≡ suc c.in-Some-at.j = ap entry_of c.in-Some-at.is in
+    let y : suc c.in-Some.head ≡ get_or a.chains.now.heads a.o 0 = sym (ap entry_of c.in-Some.is) ∙ entry_is _ _ c.first-at.ensures in
+    λ x g s.
+    let k = layer_is a.job.circuits a.circuits.now f g low refl (walk_start a.job.circuits a.circuits.now f g a.o y s) c.layer_of-layer.ensures.0 in
+    walk_turn a.job.circuits a.circuits.now f g low here (l.invariant x g s) c.record_at-c.ensures k (entry_is _ _ c.after-at.ensures) t.ensures.0 t.ensures.1 t.auto.fibres c.put.ensures
 
 pub returns : goal.returns
 returns c =
     let a = c.args in
-    λ x g s. walk_end a.job.circuits a.circuits.now c.requires.swept_some.file g (omega arith) (c.loop-z.invariant.2 x g s)
+    λ x g s. walk_end a.job.circuits a.circuits.now c.requires.swept_some.file g (ap entry_of c.in_default-at.is) (c.loop-at.invariant x g s)

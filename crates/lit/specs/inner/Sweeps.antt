@@ -29,26 +29,26 @@ pub record Takable (from layer : ℕ) (c : Circuit) (s : Open) (fibres : List �
   pub order : c.first ≤ c.last
   pub high : c.last ≤ 512
   pub layer_small : layer ≤ 65535
-  pub total_small : s.total ≤ 4294967295
+  pub total_small : s.made.total ≤ 4294967295
   pub past_small : s.past ≤ 513
-  pub new : s.past < c.first → (8 * s.many + 8 ≤ length fibres) × (from + s.many + 1 ≤ 65535)
-  pub on : c.first ≤ s.past → (1 ≤ s.many) × (8 * s.many ≤ length fibres)
+  pub new : s.past < c.first → (8 * s.made.fibres + 8 ≤ length fibres) × (from + s.made.fibres + 1 ≤ 65535)
+  pub on : c.first ≤ s.past → (1 ≤ s.made.fibres) × (8 * s.made.fibres ≤ length fibres)
 
 -- one circuit, in numbers: it begins a run past the one that is open, lengthens that one, or lies in it
 unfoldable pub taken : Circuit → Open → Open
 taken c s =
     cond
     (ltb s.past c.first)
-    (record { many = s.many + 1; total = s.total + (c.last + 1 - c.first); past = c.last + 1 })
-    (cond (ltb s.past (c.last + 1)) (record { many = s.many; total = s.total + (c.last + 1 - s.past); past = c.last + 1 }) s)
+    (record { made = record { fibres = s.made.fibres + 1; total = s.made.total + (c.last + 1 - c.first) }; past = c.last + 1 })
+    (cond (ltb s.past (c.last + 1)) (record { made = record { fibres = s.made.fibres; total = s.made.total + (c.last + 1 - s.past) }; past = c.last + 1 }) s)
 
 -- and in bytes: a fibre record more, or a new last link in the last one
 unfoldable pub written : ℕ → ℕ → Circuit → Open → List ℕ → List ℕ
 written from layer c s fibres =
     cond
     (ltb s.past c.first)
-    (put_record fibres s.many (fibre_record (from + s.many + 1) (record { first = c.first; last = c.last; layer = layer })))
-    (cond (ltb s.past (c.last + 1)) (set_cell fibres (4 * (s.many - 1) + 2) c.last) fibres)
+    (put_record fibres s.made.fibres (fibre_record (from + s.made.fibres + 1) (record { first = c.first; last = c.last; layer = layer })))
+    (cond (ltb s.past (c.last + 1)) (set_cell fibres (4 * (s.made.fibres - 1) + 2) c.last) fibres)
 
 -- past all circuits, by first link and then place: 2,048 x 513
 abbrev pub past_all : ℕ
@@ -76,7 +76,6 @@ pub record Ground (n w from : ℕ) (cs : List Circuit) (work next heads : List �
   pub few : length cs ≤ 2048
   pub lies : Lies n cs
   pub chained : Chained cs (fibre_number x.plan) next heads
-  pub linked : length cs ≤ length next
   pub area : 4 * n + 2 * length cs ≤ length work
   pub rows : (j : ℕ) → j < length cs → 2 ≤ get_or (rows_in n (length cs) (cells_of work)) j 0
   pub layers : (j : ℕ) → j < length cs → layer_of w (get_or (rows_in n (length cs) (cells_of work)) j 0 / 2) ≡ (fibre_under x.plan j).layer
@@ -93,8 +92,8 @@ so_far n cs p o past = stretches_to n cs p o ++ runs (get_or p.fibres o no_fibre
 pub record Swept (n from : ℕ) (cs : List Circuit) (x : Origin) (o t : ℕ) (s : Open) (fibres assigns : List ℕ) : Type 0 where
   pub all_end : (d : ℕ) → Rides cs (fibre_number x.plan) (suc o) d → key cs d < t → (circuit cs d).last < s.past
   pub one_ends : (s.past ≡ 0) ⊎ ((d : ℕ) × Rides cs (fibre_number x.plan) (suc o) d × (key cs d < t) × ((circuit cs d).last + 1 ≡ s.past))
-  pub counted : s.many ≡ length (so_far n cs x.plan o s.past)
-  pub summed : s.total ≡ total (so_far n cs x.plan o s.past)
+  pub counted : s.made.fibres ≡ length (so_far n cs x.plan o s.past)
+  pub summed : s.made.total ≡ total (so_far n cs x.plan o s.past)
   pub listed : fibres ≡ fibre_list from (so_far n cs x.plan o s.past) x.fibres
   pub sized : length fibres ≡ length x.fibres
   pub kept : length assigns ≡ length x.assigns
@@ -104,7 +103,7 @@ pub record Swept (n from : ℕ) (cs : List Circuit) (x : Origin) (o t : ℕ) (s 
 
 -- between two old fibres no run is open
 abbrev pub closed : Trimmed → Open
-closed r = record { many = r.fibres; total = r.total; past = 0 }
+closed r = record { made = r; past = 0 }
 
 -- what does not change, for the circuits of a file
 abbrev pub GroundOf : Job → List ℕ → List ℕ → List ℕ → List ℕ → Origin → Type 0

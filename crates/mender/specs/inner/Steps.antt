@@ -17,8 +17,7 @@ use Rattle.mending.specs.Mending.{Mend, keepable, kept, mend_counts, mend_lines,
 use Rattle.placing.specs.Riding.{GivenKept, Riding, kept_in, spans_of}
 use Rattle.parts.specs.Left.{said_behind}
 use Rattle.mender.specs.Report.{Lent, report_list}
-use Rattle.mender.specs.declared.Answer.{Answer}
-use Rattle.mender.specs.declared.Answer.TheVariants.{Mended}
+use Rattle.mender.specs.declared.Mended.{Mended}
 use Rattle.mender.specs.inner.Lines.{begun_line}
 
 -- WHAT THE TESTS LEAVE: m circuits of file s on a line of n links with w wavelengths, numbered from 1 on, `many` fibres, and one assignment record for each circuit
@@ -80,10 +79,9 @@ abbrev pub remade : ℕ → ℕ → ℕ → ℕ → List ℕ → Lent → Mend
 remade n w m many s lent = Lists.mend n w (plan_in many 0 lent.fibres lent.assigns).fibres (circuits_in m s) (assignments_in m lent.assigns)
 
 -- what is left: that plan and report in the lent areas, with their numbers, and a work area of which the part that was used is zeroed
-pub record Remade (n w m many : ℕ) (s : List ℕ) (before after : Lent) (answer : Answer) : Type 0 where
-  pub answered : answer
-      ≡ Mended (mend_counts n w (plan_in many 0 before.fibres before.assigns).fibres (circuits_in m s) (assignments_in m before.assigns))
-      (mend_lines n w (plan_in many 0 before.fibres before.assigns).fibres (circuits_in m s) (assignments_in m before.assigns))
+pub record Remade (n w m many : ℕ) (s : List ℕ) (before after : Lent) (told : Mended) : Type 0 where
+  pub counted : told.counts ≡ mend_counts n w (plan_in many 0 before.fibres before.assigns).fibres (circuits_in m s) (assignments_in m before.assigns)
+  pub lined : told.lines ≡ mend_lines n w (plan_in many 0 before.fibres before.assigns).fibres (circuits_in m s) (assignments_in m before.assigns)
   pub listed : after.fibres ≡ behind (8 * many) (fibre_list many (drop many (remade n w m many s before).plan.fibres)) before.fibres
   pub assigned : after.assigns ≡ assignment_records 0 (circuits_in m s) (remade n w m many s before).plan.assignments
   pub reported : after.report ≡ report_list (remade n w m many s before).report before.report

@@ -16,12 +16,12 @@ use Rattle.parts.proofs.copy_part.Goals as goal
 
 pub loop-t-init : goal.loop-t-init
 unfolding file_of
-loop-t-init c = (omega arith, refl, refl)
+loop-t-init c = refl
 
-pub circuit_at-c-requires : goal.circuit_at-c-requires
-circuit_at-c-requires c = let a = c.args in let b = c.requires in let l = c.loop-t in
+pub record_at-requires : goal.record_at-requires
+record_at-requires c = let a = c.args in let b = c.requires in let l = c.loop-t in
     let lt : l.t < a.k = search rules in
-    let r = place_read a.places.now a.k l.t c.get.result c.index-i.result b.0 lt c.get.ensures c.index-i.ensures.0 in
+    let r = place_read a.places.now a.k l.t c.get.result c.from-i.result b.0 lt c.get.ensures c.from-i.ensures in
     let th = b.3 l.t (omega (arith, lt, length_cells_of a.places.now a.k b.0)) in omega arith
 
 pub loop-t-preserved : goal.loop-t-preserved
@@ -29,9 +29,9 @@ loop-t-preserved c = let a = c.args in let b = c.requires in let l = c.loop-t in
     let lt : l.t < a.k = c.loop-t-test.true in
     let js = cells_of a.places.now in
     let n = length_cells_of a.places.now a.k b.0 in
-    let r = place_read a.places.now a.k l.t c.get.result c.index-i.result b.0 lt c.get.ensures c.index-i.ensures.0 in
-    let q = chosen_read a.circuits.now js l.t c.index-i.result c.circuit_at-c.result (omega arith) b.3 r c.circuit_at-c.ensures in
-    (omega arith, c.put_circuit.auto.s ∙ l.invariant.1, copied_more (chosen (circuits_of a.circuits.now) js) l.t c.circuit_at-c.result a.file.now l.file _ (omega (arith, length-map js (circuit (circuits_of a.circuits.now)))) q l.invariant.2 c.put_circuit.ensures)
+    let r = place_read a.places.now a.k l.t c.get.result c.from-i.result b.0 lt c.get.ensures c.from-i.ensures in
+    let q = chosen_read a.circuits.now js l.t c.from-i.result c.record_at.result (omega arith) b.3 r c.record_at.ensures in
+    copied_more (chosen (circuits_of a.circuits.now) js) l.t c.record_at.result a.file.now l.file _ (omega (arith, length-map js (circuit (circuits_of a.circuits.now)))) q l.invariant c.put_record.ensures
 
 pub returns : goal.returns
 returns c = let a = c.args in let b = c.requires in let l = c.loop-t in
@@ -39,4 +39,4 @@ returns c = let a = c.args in let b = c.requires in let l = c.loop-t in
     let n = length_cells_of a.places.now a.k b.0 in
     let e : l.t ≡ a.k = omega arith in
     let part = chosen (circuits_of a.circuits.now) js in
-    l.invariant.2 ∙ ap₂ (λ x y. file_of x ++ drop (8 * y) a.file.now) (take_all l.t part (omega (arith, length-map js (circuit (circuits_of a.circuits.now))))) e
+    l.invariant ∙ ap₂ (λ x y. file_of x ++ drop (8 * y) a.file.now) (take_all l.t part (omega (arith, length-map js (circuit (circuits_of a.circuits.now))))) e

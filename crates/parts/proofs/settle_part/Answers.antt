@@ -1,14 +1,7 @@
 -- `settle_part` meets its contract: the part is settled with a list of its own, whose records are then put at their places. Assumes nothing.
-use mathlib.Core.Path.{refl}
 use native.Mathlib.Omega.{arith}
-use Rattle.parts.proofs.Apart.{admitted, place_room, settled_part}
+use Rattle.parts.proofs.Apart.{place_room, settled_part}
 use Rattle.parts.proofs.settle_part.Goals as goal
-
-pub settle-counts-requires : goal.settle-counts-requires
-settle-counts-requires c =
-    let a = c.args in
-    let h = c.requires in
-    admitted a.job.links a.job.wavelengths a.job.circuits a.job.from a.base a.places.now a.fibres.now a.assigns.now a.work.now h.0 a.part.now h.1 _ refl
 
 pub put_part-requires : goal.put_part-requires
 put_part-requires c =

@@ -18,21 +18,18 @@ use Rattle.placing.proofs.Orderly.{ordered_in_turn}
 use Rattle.placing.proofs.Written.{none_yet, found_written}
 use Rattle.placing.proofs.place_new.Goals as goal
 
-pub place_all-requires : goal.place_all-requires
-place_all-requires c = let a = c.args in let b = c.requires.len in let d = c.requires.given_all in
-    let cs = circuits_in a.mo a.old.now in let ds = circuits_in a.m a.new.now in
+pub place_all-requires-clause-riding : goal.place_all-requires-clause-riding
+place_all-requires-clause-riding c = let a = c.args in let b = c.requires.room in let d = c.requires.files in
+    let cs = circuits_in a.before a.old.now in let ds = circuits_in a.m a.new.now in
     let n = length_riders ds (replicate a.m unassigned) in let k = length_circuits_in a.m a.new.now in
-    let s = c.ride_all.auto.ends in record {
-      len = (b.1, b.2, b.3, b.4, b.5, b.6, b.7, omega (arith, b.8, s), c.ride_all.auto.heads, c.ride_all.auto.next, d.4, omega (arith, b.2));
-      len_2 = (riders cs (places_of a.mo a.assigns.now), replicate a.m unassigned, length_riders cs (places_of a.mo a.assigns.now) ∙ length_circuits_in a.mo a.old.now, length-replicate a.m unassigned, ordered_in_turn a.m ds (cells_of a.order.now) (length_cells_of a.order.now a.m b.3) d.2, c.ride_all.ensures (riders ds (replicate a.m unassigned)) (none_yet ds a.m) (omega (arith, b.2, n, k)) (omega (arith, b.8, n, k)) (omega (arith, b.7, n, k)));
-    }
+    (riders cs (places_of a.before a.assigns.now), replicate a.m unassigned, length_riders cs (places_of a.before a.assigns.now) ∙ length_circuits_in a.before a.old.now, length-replicate a.m unassigned, ordered_in_turn a.m ds (cells_of a.order.now) (length_cells_of a.order.now a.m b.3) d.2, c.ride_all.ensures (riders ds (replicate a.m unassigned)) (none_yet ds a.m) (omega (arith, b.2, n, k)) (omega (arith, b.8, n, k)) (omega (arith, b.7, n, k)))
 
 pub returns : goal.returns
 unfolding places_of spans_of plan_in
-returns c = let a = c.args in let b = c.requires.len in let d = c.requires.given_all in
-    let cs = circuits_in a.mo a.old.now in let ds = circuits_in a.m a.new.now in
+returns c = let a = c.args in let b = c.requires.room in let d = c.requires.files in
+    let cs = circuits_in a.before a.old.now in let ds = circuits_in a.m a.new.now in
     let n = length_riders ds (replicate a.m unassigned) in let k = length_circuits_in a.m a.new.now in
-    let o = length_riders cs (places_of a.mo a.assigns.now) ∙ length_circuits_in a.mo a.old.now in
+    let o = length_riders cs (places_of a.before a.assigns.now) ∙ length_circuits_in a.before a.old.now in
     let lc = length_cells_of a.order.now a.m b.3 in
-    let y = c.place_all.ensures (riders cs (places_of a.mo a.assigns.now)) (replicate a.m unassigned) o (length-replicate a.m unassigned) (ordered_in_turn a.m ds (cells_of a.order.now) lc d.2) (c.ride_all.ensures (riders ds (replicate a.m unassigned)) (none_yet ds a.m) (omega (arith, b.2, n, k)) (omega (arith, b.8, n, k)) (omega (arith, b.7, n, k))) in
-    found_written a.w a.m cs (plan_in a.many a.mo a.fibres.now a.assigns.now) ds (cells_of a.order.now) a.assigns.now _ a.mo lc k d.1 d.3 d.2 b.7 (y.said ∙ ap (λ (i : ℕ). recorded ds i (give (spans_of a.many a.fibres.now) a.w (riders cs (places_of a.mo a.assigns.now)) ds (cells_of a.order.now) (replicate a.m unassigned)) (cells_of a.order.now) a.assigns.now) o)
+    let y = c.place_all.ensures (riders cs (places_of a.before a.assigns.now)) (replicate a.m unassigned) o (length-replicate a.m unassigned) (ordered_in_turn a.m ds (cells_of a.order.now) lc d.2) (c.ride_all.ensures (riders ds (replicate a.m unassigned)) (none_yet ds a.m) (omega (arith, b.2, n, k)) (omega (arith, b.8, n, k)) (omega (arith, b.7, n, k))) in
+    found_written a.w a.m cs (plan_in a.many a.before a.fibres.now a.assigns.now) ds (cells_of a.order.now) a.assigns.now _ a.before lc k d.1 d.3 d.2 b.7 (y.said ∙ ap (λ (i : ℕ). recorded ds i (give (spans_of a.many a.fibres.now) a.w (riders cs (places_of a.before a.assigns.now)) ds (cells_of a.order.now) (replicate a.m unassigned)) (cells_of a.order.now) a.assigns.now) o)

@@ -1,17 +1,24 @@
 -- One rider more, and the circuits of a file that ride so far. Assumes nothing.
-use Rattle.std.specs.Prelude.{◌+◌, ◌*◌, ◌-◌, ◌≤◌, suc, zero, ℕ, get_or, length, set, take, List, ◌++◌, ◌≡◌}
+use Rattle.std.specs.Prelude.{◌+◌, ◌*◌, ◌-◌, ◌<◌, ◌≤◌, suc, zero, ℕ, get_or, length, set, take, List, ◌++◌, ◌≡◌}
 use Rattle.records.specs.Bytes.{set_cell}
 use Rattle.records.specs.Records.{circuits_in}
 use Rattle.records.specs.declared.Circuit.{Circuit}
 use Rattle.method.specs.Line.{Assignment}
-use Rattle.places.specs.Places.{Rider, riders}
-use Rattle.placing.specs.Riding.{NoneRides, Riding}
+use Rattle.places.specs.Places.{Rider, rider, riders}
+use Rattle.placing.specs.Riding.{Among, Chain, NoneRides, Riding}
 
 -- how many places follow from z on, k at most: the measure of a walk
 unfoldable pub hops : List ℕ → ℕ → ℕ → ℕ
 hops next zero z = 0
 hops next (suc k) zero = 0
 hops next (suc k) (suc j) = suc (hops next k (get_or next j 0))
+
+-- the walk along the chain of fibre q has come to z
+pub record Walking (rs : List Rider) (next : List ℕ) (q z : ℕ) : Type 0 where
+  pub left : List ℕ
+  pub linked : Chain next z left
+  pub short : length left ≤ 2048
+  pub mine : (d : ℕ) → Among d left → (d < length rs) × ((rider rs d).fibre ≡ q)
 
 -- the ends of circuit c noted at place j
 unfoldable pub noted : Circuit → ℕ → List ℕ → List ℕ

@@ -8,13 +8,13 @@ use Rattle.additions.specs.Adding.{finds}
 use Rattle.placing.specs.Riding.{Riding}
 use Rattle.placing.specs.Turns.{given_bytes}
 use Rattle.placing.specs.inner.Rides.{Ridden}
-use Rattle.placing.specs.inner.Spots.{Corners}
+use Rattle.placing.specs.inner.Spots.{CornersHold}
 
 -- the riders `old`, and behind them the circuits ds with what gs gives them, stand in the bytes and tables; the corners are right for them
 pub record Standing (many w : ℕ) (old : List Rider) (ds : List Circuit) (gs : List Assignment) (ends assigns heads next untils froms : List ℕ) : Type 0 where
   pub one_each : length gs ≡ length ds
   pub riding : Riding many (old ++ riders ds gs) ends assigns heads next
-  pub corners : Corners many 1 w (old ++ riders ds gs) untils froms
+  pub corners : CornersHold many 1 w (old ++ riders ds gs) untils froms
 
 -- the record at place j says that circuit c has fibre q and wavelength v; it rides there, unless q is 0
 pub record Seated (c : Circuit) (q v j : ℕ) (assigns ends heads next assigns' ends' heads' next' : List ℕ) : Type 0 where

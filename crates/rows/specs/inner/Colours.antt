@@ -1,5 +1,5 @@
 -- The colours of a row, as the last rows of the links tell them. Assumes nothing.
-use Rattle.std.specs.Prelude.{◌≡◌, ℕ, ◌+◌, ◌-◌, ◌<◌, ◌≤◌, Bool, cond, ◌&&◌, ◌≢◌, List, ◌==◌, nat_le, nat_lt}
+use Rattle.std.specs.Prelude.{◌≡◌, ℕ, ◌+◌, ◌-◌, ◌<◌, ◌≤◌, Bool, cond, ◌&&◌, ◌≢◌, List, ◌==◌, nat_le, nat_lt, Option, MatchOption}
 use Rattle.basics.specs.Tools.{each}
 use Rattle.method.specs.Sheet.{State, at, red, blue, taken, open', run_from, run_past, paint}
 use Rattle.rows.specs.declared.colours.Run.{Run}
@@ -39,6 +39,10 @@ pub record BlueTo (K : List ℕ) (l r : ℕ) : Type 0 where
 -- l is the first open link of row k, for links with last rows D
 abbrev pub AtRun : ℕ → ℕ → ℕ → List ℕ → Type 0
 AtRun n k l D = (1 ≤ k) × (k < 65535) × (l ≤ n) × (l ≡ run_from n (shown n k D))
+
+-- what is told of a link that was sought, of n: the link, or none where x is past the last
+abbrev pub LinkTold : ℕ → ℕ → Option ℕ → Type 0
+LinkTold n x told = MatchOption told (n < x) (λ l. (l ≡ x) × (l ≤ n))
 
 -- the leftmost run of open links with its reach over the blue links beside it
 pub record Around (n : ℕ) (K : List ℕ) (run : Run) : Type 0 where

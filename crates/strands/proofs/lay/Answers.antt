@@ -1,39 +1,33 @@
 -- `strands::lay` meets its contract: the parts, put together by proofs/Laying.antt. Assumes nothing.
 use Rattle.std.proofs.Common.{◌*◌, ◌∙◌, arith, rules}
-use borrow.Rule.Slice.PartMut.{mid_len}
-use Rattle.records.proofs.Parts.{rest_kept}
-use Rattle.strands.proofs.Readies.{few_there, lies, one_end, pairs_few, parts_ready, pairs_ready, sources}
-use Rattle.strands.proofs.Laying.{all_held, all_laid}
+use lib.ListN.{length-take}
+use Rattle.strands.proofs.Readies.{few_there, lies, one_end, pairs_few, pairs_room, parts_ready, sources}
+use Rattle.strands.proofs.Laying.{all_held, all_laid, rest_left}
 use Rattle.strands.proofs.lay.Goals as goal
 
-pub pair_lasts-pairs-requires-clause-has_parts : goal.pair_lasts-pairs-requires-clause-has_parts
-pair_lasts-pairs-requires-clause-has_parts c = parts_ready c.requires
+pub of_layers-pairs-requires-clause-has_parts : goal.of_layers-pairs-requires-clause-has_parts
+of_layers-pairs-requires-clause-has_parts c = parts_ready c.requires
 
-pub pair_lasts-pairs-requires-clause-has_pairs : goal.pair_lasts-pairs-requires-clause-has_pairs
-pair_lasts-pairs-requires-clause-has_pairs c = (pairs_ready c.requires (omega arith)).1
+pub of_layers-pairs-requires-clause-has_room : goal.of_layers-pairs-requires-clause-has_room
+of_layers-pairs-requires-clause-has_room c = pairs_room c.requires
 
 pub write_halves-requires-clause-halvable : goal.write_halves-requires-clause-halvable
 write_halves-requires-clause-halvable c =
-    let p = c.pair_lasts-pairs.ensures in
+    let p = c.of_layers-pairs.ensures in
     (lies c.requires, (few_there c.requires p, one_end c.requires p))
 
 -- what the assignments are read from
 pub write_assignments-requires-clause-sources : goal.write_assignments-requires-clause-sources
-write_assignments-requires-clause-sources c = sources c.requires c.pair_lasts-pairs.ensures c.pair_lasts-pairs.auto.work c.write_halves.ensures.0 c.write_halves.ensures.2 (omega arith) c.pair_lasts-pairs.auto.lasts
-
-pub overflow_mul-pairs : goal.overflow_mul-pairs
-overflow_mul-pairs c =
-    let f = (sources c.requires c.pair_lasts-pairs.ensures c.pair_lasts-pairs.auto.work c.write_halves.ensures.0 c.write_halves.ensures.2 (omega arith) c.pair_lasts-pairs.auto.lasts).strung.there.few in
-    omega arith
+write_assignments-requires-clause-sources c = sources c.requires c.of_layers-pairs.ensures c.of_layers-pairs.auto.work c.write_halves.ensures.0 c.write_halves.ensures.2
 
 pub trim-t-requires : goal.trim-t-requires
 trim-t-requires c =
     let rd = c.requires in
     let acc = rd.accepted in
-    let src = sources c.requires c.pair_lasts-pairs.ensures c.pair_lasts-pairs.auto.work c.write_halves.ensures.0 c.write_halves.ensures.2 (omega arith) c.pair_lasts-pairs.auto.lasts in
+    let src = sources c.requires c.of_layers-pairs.ensures c.of_layers-pairs.auto.work c.write_halves.ensures.0 c.write_halves.ensures.2 in
     let l = src.marked.long in
     let p = pairs_few rd in
-    let e = c.pair_lasts-pairs.ensures.pairs_are in
+    let e = c.of_layers-pairs.ensures.pairs_are in
     record {
       line = omega arith;
       waves = omega arith;
@@ -56,7 +50,7 @@ returns c =
     let m = a.job.circuits in
     let rd = c.requires in
     let r = rd.assign_room in
-    let src = sources c.requires c.pair_lasts-pairs.ensures c.pair_lasts-pairs.auto.work c.write_halves.ensures.0 c.write_halves.ensures.2 (omega arith) c.pair_lasts-pairs.auto.lasts in
+    let src = sources c.requires c.of_layers-pairs.ensures c.of_layers-pairs.auto.work c.write_halves.ensures.0 c.write_halves.ensures.2 in
     all_laid rd _ c.floor_of-floor.ensures.0
-    (rest_kept (2 * m) (8 * m) a.assigns.now c.write_halves.new.before (omega arith) (omega arith) (c.write_halves.ensures.1 ∙ mid_len 0 (2 * m) a.assigns.now (omega arith)))
-    c.write_assignments.ensures (c.trim-t.ensures _ (all_held _ src c.write_assignments.ensures)) (c.write_halves.ensures.0 ∙ c.pair_lasts-pairs.auto.work)
+    (rest_left (2 * m) (8 * m) a.assigns.now c.write_halves.new.before (omega arith) (c.write_halves.ensures.1 ∙ simp length-take (omega arith)))
+    c.write_assignments.ensures (c.trim-t.ensures _ (all_held _ src c.write_assignments.ensures)) (c.write_halves.ensures.0 ∙ c.of_layers-pairs.auto.work)

@@ -10,7 +10,6 @@ use Rattle.method.specs.Line.{Assignment, circuit, no_fibre}
 use Rattle.method.specs.Sheet.{most, rows}
 use Rattle.register.specs.Lists.{assignment_record, assignment_records}
 use Rattle.rows.specs.Accepted.{Accepted}
-use Rattle.strands.specs.inner.Pairs.{HasPairs}
 
 -- in the rows' part stands, for each circuit, twice its row, and 1 more for the second fibre; in the spare part, for each layer, the number of pairs before it
 pub record Marked (n w m : ℕ) (s work : List ℕ) : Type 0 where
@@ -21,7 +20,6 @@ pub record Marked (n w m : ℕ) (s work : List ℕ) : Type 0 where
 
 -- the table has `count` pairs, as many as the method's, and the last link of each
 pub record Strung (n w m count : ℕ) (s table : List ℕ) : Type 0 where
-  pub there : HasPairs count table
   pub count_is : count ≡ length (pairs n w (circuits_in m s))
   pub lasts : (i : ℕ) → i < count → get_or table i 0 ≡ (get_or (pairs n w (circuits_in m s)) i no_fibre).last
 

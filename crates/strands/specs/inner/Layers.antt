@@ -1,5 +1,6 @@
 -- The layers by c(i) alone: f i is c(i), and the layers are 1 to `top`. These follow `layer` and `layers` of the method. Assumes nothing.
-use Rattle.std.specs.Prelude.{ℕ, zero, suc, ◌+◌, ◌-◌, ◌*◌, ◌≤◌, ◌<◌, Bool, List, [], ◌++◌, ◌≡◌, length, get_or, take, leb}
+use Rattle.std.specs.Prelude.{ℕ, zero, suc, ◌+◌, ◌-◌, ◌*◌, ◌≤◌, ◌<◌, Bool, Option, None, Some, List, [], ◌++◌, ◌≡◌, length, get_or, take, leb}
+use Rattle.std.specs.Bool.{then_some}
 use Rattle.records.specs.Area.{spare_in}
 use Rattle.records.specs.Bytes.{cells_of}
 use Rattle.method.specs.Fibres.{runs}
@@ -46,3 +47,12 @@ pub record HasParts (n m top : ℕ) (work : List ℕ) : Type 0 where
 pub record Spared (n m top k : ℕ) (C C' : List ℕ) : Type 0 where
   pub kept : take (2 * n + m) C' ≡ take (2 * n + m) C
   pub starts : (h : ℕ) → h < k → get_or (spare_in n m C') h 0 ≡ length (layers_by (at C) n top h)
+
+-- link l, if it is on a line of n links
+abbrev pub on_line : ℕ → ℕ → Option ℕ
+on_line n l = then_some (leb l n) l
+
+-- the link that is told, or the one past the line
+abbrev pub link_or_end : ℕ → Option ℕ → ℕ
+link_or_end n None = n + 1
+link_or_end n (Some l) = l

@@ -1,8 +1,8 @@
 -- The table of the pairs, which has the last link of each, and how it is filled. Assumes nothing.
-use Rattle.std.specs.Prelude.{ℕ, suc, ◌+◌, ◌-◌, ◌≤◌, Bool, true, List, [], ◌∷◌, ◌≡◌, length, set}
+use Rattle.std.specs.Prelude.{ℕ, suc, ◌+◌, ◌-◌, ◌≤◌, ◌<◌, Bool, true, List, [], ◌∷◌, ◌≡◌, length, get_or, set}
 use Rattle.records.specs.Bytes.{cells_of}
 use Rattle.method.specs.Fibres.{runs}
-use Rattle.method.specs.Line.{Fibre}
+use Rattle.method.specs.Line.{Fibre, no_fibre}
 use Rattle.method.specs.Sheet.{at}
 use Rattle.strands.specs.inner.Layers.{Spared, layers_by, layers_in}
 
@@ -11,20 +11,15 @@ unfoldable pub put_lasts : ℕ → List Fibre → List ℕ → List ℕ
 put_lasts k [] table = table
 put_lasts k (f ∷ fs) table = put_lasts (k + 1) fs (set table k f.last)
 
--- the table has a place for each of `count` pairs, and their number has two bytes
-pub record HasPairs (count : ℕ) (table : List ℕ) : Type 0 where
-  pub room : count ≤ length table
-  pub few : count ≤ 65535
-
 -- the last links of the runs were put from place k on, and `past` is the place after them
 pub record LastsPut (k : ℕ) (fs : List Fibre) (table₀ table₁ : List ℕ) (past : ℕ) : Type 0 where
   pub past_is : past ≡ k + length fs
   pub put : table₁ ≡ put_lasts k fs table₀
 
--- the last link of each pair was put, `pairs` of them, and the number of pairs before each layer stands in its spare cell
-pub record PairsPut (n m top : ℕ) (work₀ work₁ table₀ table₁ : List ℕ) (pairs : ℕ) : Type 0 where
+-- the table has the last link of each pair, `pairs` of them, and the number of pairs before each layer stands in its spare cell
+pub record PairsPut (n m top : ℕ) (work₀ work₁ table : List ℕ) (pairs : ℕ) : Type 0 where
   pub pairs_are : pairs ≡ length (layers_in n top work₀)
-  pub put : table₁ ≡ put_lasts 0 (layers_in n top work₀) table₀
+  pub lasts : (i : ℕ) → i < pairs → get_or table i 0 ≡ (get_or (layers_in n top work₀) i no_fibre).last
   pub spare : Spared n m top top (cells_of work₀) (cells_of work₁)
 
 -- where the loop over the runs of layer h stands at link l, with the places before `place` filled: what is left to put here is what there was at the start

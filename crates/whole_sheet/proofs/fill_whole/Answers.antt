@@ -3,23 +3,14 @@ use Rattle.whole_sheet.proofs.Drawing.{first_sources, first_table, all_filled, a
 use Rattle.whole_sheet.specs.Cells.{sheet_list}
 use Rattle.whole_sheet.proofs.fill_whole.Goals as goal
 
-pub most_of-top-requires : goal.most_of-top-requires
-most_of-top-requires c = c.requires.accepted
-
-pub prepare-requires : goal.prepare-requires
-prepare-requires c = record {
-  accepted = c.requires.accepted;
-  work_len = c.requires.work_len.0;
-}
-
 pub all_rows-requires : goal.all_rows-requires
 all_rows-requires c =
     let prepare = c.prepare in
     let most-of = c.most_of-top in
     let a = c.args in
     let c' = prepare.ensures in (
-      first_sources a.n a.w a.m a.circuits.now _ c' _ a.sheet.now c.requires.accepted most-of.ensures c.requires.work_len.1,
-      first_table a.n a.w a.m a.circuits.now _ c' a.sheet.now,
+      first_sources a.size.links a.size.wavelengths a.size.circuits a.circuits.now _ c' _ a.sheet.now c.requires.accepted most-of.ensures c.requires.room.1,
+      first_table a.size.links a.size.wavelengths a.size.circuits a.circuits.now _ c' a.sheet.now,
     )
 
 pub returns : goal.returns
@@ -30,6 +21,6 @@ returns c =
     let a = c.args in
     let r = all-rows.ensures in (
       most-of.ensures,
-      all_filled a.n a.w a.m _ a.circuits.now _ a.sheet.now _ r.0 r.1,
-      all_drawn a.n a.w a.m _ a.circuits.now _ a.sheet.now _ r.0 r.1 r.2,
+      all_filled a.size.links a.size.wavelengths a.size.circuits _ a.circuits.now _ a.sheet.now _ r.0 r.1,
+      all_drawn a.size.links a.size.wavelengths a.size.circuits _ a.circuits.now _ a.sheet.now _ r.0 r.1 r.2,
     )

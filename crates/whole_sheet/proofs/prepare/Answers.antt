@@ -1,23 +1,15 @@
 -- `prepare`: zeros, and then the c(i). Assumes nothing.
-use Prim.Native.Nat.{◌*◌}
-use mathlib.Core.Path.{refl, ◌∙◌}
-use native.Mathlib.Omega.{arith}
-use native.Mathlib.Nat.{sub-zero}
-use borrow.Rule.Slice.PartMut.{mid_len}
+use Rattle.std.proofs.Common.{◌≡◌, ℕ, ◌+◌, ◌*◌, replicate, ap, ◌∙◌, arith}
+use lib.Seq.{length-take-le}
 use Rattle.records.specs.Records.{circuits_in}
-use Rattle.rows.proofs.FillLaws.{all_zero, counted}
+use Rattle.rows.proofs.FillLaws.{zeros, back}
 use Rattle.whole_sheet.proofs.prepare.Goals as goal
-
-pub write_needs-requires : goal.write_needs-requires
-write_needs-requires c =
-    let a = c.args in
-    let z = c.zero in
-    (c.requires.accepted, mid_len 0 (2 * a.n) z.new.bytes (omega arith) ∙ sub-zero (2 * a.n))
 
 pub returns : goal.returns
 returns c =
     let a = c.args in
-    let z = c.zero in
+    let fill = c.fill in
     let y = c.write_needs in
-    counted a.n a.m a.w (circuits_in a.m a.circuits.now) z.new.bytes _ _ (z.auto.bytes ∙ c.requires.work_len)
-    (all_zero a.n a.m a.work.now _ c.requires.work_len z.ensures) y.auto.cells y.ensures refl
+    let e : fill.new.self ≡ replicate (4 * a.size.links + 4 * a.size.circuits) 0 = fill.ensures.after (λ y h. h) ∙ ap (λ (k : ℕ). replicate k 0) c.requires.work_len in
+    back a.size.links a.size.circuits a.size.wavelengths (circuits_in a.size.circuits a.circuits.now) fill.new.self y.new.cells (fill.ensures.len ∙ c.requires.work_len) (zeros a.size.links a.size.circuits _ e)
+    (y.auto.cells ∙ length-take-le (2 * a.size.links) fill.new.self (omega (arith, fill.ensures.len))) y.ensures

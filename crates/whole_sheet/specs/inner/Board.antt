@@ -1,5 +1,5 @@
 -- File, work area and one row of the sheet together, and what a step and a row make of them. Assumes nothing.
-use Rattle.std.specs.Prelude.{ℕ, ◌+◌, ◌*◌, ◌≤◌, Bool, ◌&&◌, ◌||◌, List, ◌≡◌, leb, ltb, eqb, length, set}
+use Rattle.std.specs.Prelude.{ℕ, Option, Some, None, ◌+◌, ◌*◌, ◌<◌, ◌≤◌, Bool, ◌&&◌, ◌||◌, List, ◌≡◌, leb, ltb, eqb, length, set}
 use Rattle.records.specs.Area.{needs_in, rows_in}
 use Rattle.records.specs.Bytes.{cells_of}
 use Rattle.records.specs.Records.{circuits_in}
@@ -23,6 +23,11 @@ pub record AtRun (n : ℕ) (row : List ℕ) (run : Run) : Type 0 where
   pub starts : run.from ≡ run_from n row
   pub ends : run.past ≡ run_past n row
   pub there : run.from ≤ n
+
+-- the first open link is told, or that there is none
+abbrev pub FirstOpen : ℕ → List ℕ → Option ℕ → Type 0
+FirstOpen n row (Some l) = (l ≡ run_from n row) × (l ≤ n)
+FirstOpen n row None = n < run_from n row
 
 -- link x is in the run or blue
 unfoldable pub light : Run → List ℕ → ℕ → Bool

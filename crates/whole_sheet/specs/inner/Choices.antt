@@ -1,22 +1,20 @@
 -- The circuit that a step places, as the search has it. Assumes nothing.
-use Rattle.std.specs.Prelude.{ℕ, ◌<◌, Bool, ◌&&◌, List, eqb}
+use Rattle.std.specs.Prelude.{ℕ, ◌<◌, Bool, ◌&&◌, List, eqb, Option as Told, Some, None}
 use Rattle.std.proofs.Math.Option.{Option, none, some}
 use Rattle.records.specs.Records.{circuits_in}
 use Rattle.method.specs.Line.{circuit}
 use Rattle.method.specs.Sheet.{fits, row_of}
-use Rattle.whole_sheet.specs.declared.choice.Choice.{Choice}
-use Rattle.whole_sheet.specs.declared.choice.Choice.TheVariants.{Lowest, Nobody}
 use Rattle.whole_sheet.specs.inner.Board.{state_in}
 
 -- the place of the circuit, if there is one
-abbrev pub place_of : Choice → Option ℕ
-place_of (Lowest j) = some j
-place_of Nobody = none
+abbrev pub place_of : Told ℕ → Option ℕ
+place_of (Some j) = some j
+place_of None = none
 
 -- it is one of m
-abbrev pub OneOf : ℕ → Choice → Type 0
-OneOf m (Lowest j) = j < m
-OneOf m Nobody = Unit {0}
+abbrev pub OneOf : ℕ → Told ℕ → Type 0
+OneOf m (Some j) = j < m
+OneOf m None = Unit {0}
 
 -- whether circuit j waits and fits
 unfoldable pub may_go : ℕ → ℕ → List ℕ → List ℕ → List ℕ → ℕ → Bool

@@ -1,38 +1,36 @@
 -- `fibre_fault` meets its contract: no fibre before the one that is read is faulty. Assumes nothing.
-use borrow.Author.Rules.{rules}
+use Rattle.std.specs.Prelude.{Option as Told}
 use Prim.Native.Nat.{ℕ, ◌<◌}
 use mathlib.Core.Path.{◌≡◌, ap, ◌∙◌, sym}
 use mathlib.Core.List.{List}
-use native.Mathlib.Omega.{arith}
 use Rattle.records.specs.Records.{record_at, fibre_of}
 use Rattle.records.specs.declared.FibreRecord.{FibreRecord}
 use Rattle.checker.specs.Rules.{lowest_broken, rules_of_fibre, fibre_rules}
-use Rattle.checker.specs.Checked.{fibres_in}
-use Rattle.checker.proofs.Faults.{sound_more, broken_at, nothing_all}
+use Rattle.checker.specs.Checked.{fibres_in, rule_told}
+use Rattle.checker.proofs.Faults.{sound_more, told_some, told_none, broken_at, nothing_all}
 use Rattle.checker.proofs.Reading.{fibres_in_at}
 use Rattle.checker.proofs.rules.fibre_fault.Goals as goal
 
--- the lowest rule of a fibre that was read
-rule-is : (n k i x : ℕ) (bytes : List ℕ) (f : FibreRecord) → i < k → f ≡ fibre_of (record_at bytes i) → x ≡ lowest_broken (rules_of_fibre n i f) → x ≡ lowest_broken (fibre_rules n (fibres_in k bytes) i)
-rule-is n k i x bytes f h e r = r ∙ ap (λ (f : FibreRecord). lowest_broken (rules_of_fibre n i f)) (e ∙ sym (fibres_in_at k bytes i _ h))
+-- what is told of a fibre that was read is its lowest rule
+rule-is : (n k i : ℕ) (x : Told ℕ) (bytes : List ℕ) (f : FibreRecord) → i < k → f ≡ fibre_of (record_at bytes i) → x ≡ rule_told (lowest_broken (rules_of_fibre n i f))
+    → rule_told (lowest_broken (fibre_rules n (fibres_in k bytes) i)) ≡ x
+rule-is n k i x bytes f h e r = sym (r ∙ ap (λ (f : FibreRecord). rule_told (lowest_broken (rules_of_fibre n i f))) (e ∙ sym (fibres_in_at k bytes i _ h)))
 
-pub loop-i-init : goal.loop-i-init
-loop-i-init c = (search rules, λ j h. absurd (omega arith))
-
-pub returns-then-rule-ne0 : goal.returns-then-rule-ne0
-returns-then-rule-ne0 c =
+pub returns-in-Some : goal.returns-in-Some
+returns-in-Some c =
     let a = c.args in
     let l = c.loop-i in
-    broken_at _ a.k l.i _ c.loop-i-test.true (rule-is a.n a.k l.i _ a.fibres.now _ c.loop-i-test.true c.fibre_at-f.ensures c.fibre_rule-rule.ensures) c.if-rule-ne0.true l.invariant.1
+    let t = told_some _ _ (rule-is a.n a.k l.i _ a.fibres.now _ c.loop-i-test.true c.record_at-f.ensures c.fibre_rule.ensures ∙ c.in-Some.is) in
+    broken_at _ a.k l.i _ c.loop-i-test.true t.0 t.1 l.invariant
 
 pub loop-i-preserved : goal.loop-i-preserved
 loop-i-preserved c =
     let a = c.args in
     let l = c.loop-i in
-    (search rules, sound_more _ l.i l.invariant.1 (sym (rule-is a.n a.k l.i _ a.fibres.now _ c.loop-i-test.true c.fibre_at-f.ensures c.fibre_rule-rule.ensures) ∙ c.if-rule-ne0.false))
+    sound_more _ l.i l.invariant (told_none _ (rule-is a.n a.k l.i _ a.fibres.now _ c.loop-i-test.true c.record_at-f.ensures c.fibre_rule.ensures ∙ c.in_default.is))
 
 pub returns : goal.returns
 returns c =
     let a = c.args in
     let l = c.loop-i in
-    nothing_all _ a.k l.i c.loop-i-test.false l.invariant.1
+    nothing_all _ a.k l.i c.loop-i-test.false l.invariant

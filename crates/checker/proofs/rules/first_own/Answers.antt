@@ -1,31 +1,24 @@
 -- `first_own` meets its contract: none before the assignment that is looked at breaks one of rules 4 to 7. Assumes nothing.
-use borrow.Author.Rules.{rules}
 use mathlib.Core.Path.{◌∙◌, sym}
-use native.Mathlib.Omega.{arith}
-use Rattle.refusals.proofs.FirstLaws.{none_more}
-use Rattle.checker.specs.Rules.{faulty}
 use Rattle.checker.specs.inner.Runs.{own_rules_in}
-use Rattle.checker.proofs.Faults.{faulty_is, sound_is}
-use Rattle.checker.proofs.Seeking.{stops_at, runs_out}
+use Rattle.checker.proofs.Faults.{sound_more, told_some, told_none, broken_at, nothing_all}
 use Rattle.checker.proofs.rules.first_own.Goals as goal
 
-pub loop-j-init : goal.loop-j-init
-loop-j-init c = (search rules, λ i h. absurd (omega arith))
-
-pub returns-then-rule_at-ne0 : goal.returns-then-rule_at-ne0
-returns-then-rule_at-ne0 c =
+pub returns-in-Some : goal.returns-in-Some
+returns-in-Some c =
     let a = c.args in
     let l = c.loop-j in
-    stops_at (λ j. faulty (own_rules_in a.w a.k a.circuits.now a.fibres.now a.assigns.now j)) a.m l.j c.loop-j-test.true
-    (faulty_is _ (λ z. c.if-rule_at-ne0.true (c.rule_at.ensures ∙ z))) l.invariant.1
+    let t = told_some _ _ (sym c.rule_at.ensures ∙ c.in-Some.is) in
+    broken_at (own_rules_in a.w a.k a.circuits.now a.fibres.now a.assigns.now) a.m l.j _ c.loop-j-test.true t.0 t.1 l.invariant
 
 pub loop-j-preserved : goal.loop-j-preserved
 loop-j-preserved c =
+    let a = c.args in
     let l = c.loop-j in
-    (search rules, none_more _ l.j l.invariant.1 (sound_is _ (sym c.rule_at.ensures ∙ c.if-rule_at-ne0.false)))
+    sound_more (own_rules_in a.w a.k a.circuits.now a.fibres.now a.assigns.now) l.j l.invariant (told_none _ (sym c.rule_at.ensures ∙ c.in_default.is))
 
 pub returns : goal.returns
 returns c =
     let a = c.args in
     let l = c.loop-j in
-    runs_out (λ j. faulty (own_rules_in a.w a.k a.circuits.now a.fibres.now a.assigns.now j)) a.m l.j c.loop-j-test.false l.invariant.1
+    nothing_all (own_rules_in a.w a.k a.circuits.now a.fibres.now a.assigns.now) a.m l.j c.loop-j-test.false l.invariant

@@ -1,25 +1,45 @@
--- `entry_text::numbering::line_of_record` meets its contract. Assumes nothing.
-use borrow.Author.Rules.{rules}
-use Prim.Native.Nat.{suc, ◌+◌, ◌-◌}
-use mathlib.Core.Path.{◌≡◌, ◌∙◌, sym}
-use native.Mathlib.Omega.{arith}
-use lib.ListN.{length}
-use Rattle.entry_text.specs.Lines.{line_of_record}
-use Rattle.entry_text.proofs.LineLaws.{counting_over, counting_idle, counting_here, counting_more}
+-- `line_of_record` meets its contract: each turn passes a line that counts. Assumes nothing.
+use Rattle.std.proofs.Common.{◌≡◌, ◌+◌, ◌-◌, arith}
+use Rattle.entry_text.proofs.LineLaws.{left_start, left_walked, left_next, left_here, left_over}
 use Rattle.entry_text.proofs.numbering.line_of_record.Goals as goal
 
-pub loop-i-init : goal.loop-i-init
-unfolding line_of_record
-loop-i-init c = (search rules, search rules, search rules, (let k : length c.args.text.now + 2 - 1 ≡ suc (length c.args.text.now) = omega arith in rw k))
+pub loop-init : goal.loop-init
+loop-init c =
+    let k = c.args.k in
+    let e : k - 0 ≡ k = omega arith in
+    rw e (left_start c.args.text.now k)
 
-pub loop-i-preserved-then-idle_line : goal.loop-i-preserved-then-idle_line
-loop-i-preserved-then-idle_line c = (search rules, search rules, search rules, sym (counting_idle (length c.args.text.now + 2 - c.loop-i.line) (length c.args.text.now + 2 - (c.loop-i.line + 1)) c.args.text.now c.loop-i.i c.loop-i.line c.loop-i.left c.line_end-e.result (omega arith) (omega arith) c.line_end-e.ensures.0 (sym c.idle_line.ensures ∙ c.if-idle_line.true)) ∙ c.loop-i.invariant.3)
+pub returns-in_default : goal.returns-in_default
+returns-in_default c =
+    let s = c.args.text.now in
+    let k = c.args.k in
+    let l = c.loop in
+    let n = c.in_default.ensures in
+    left_over s k (k - l.counter) n.0 c.in_default.field-0 (left_walked s k (k - l.counter) l.i l.number n.0 c.in_default.field-0 n.1 l.invariant) n.2
 
-pub returns-then-left-eq0 : goal.returns-then-left-eq0
-returns-then-left-eq0 c = sym (counting_here (length c.args.text.now + 2 - c.loop-i.line) (length c.args.text.now + 1 - c.loop-i.line) c.args.text.now c.loop-i.i c.loop-i.line c.loop-i.left c.line_end-e.result (omega arith) (omega arith) c.line_end-e.ensures.0 (sym c.idle_line.ensures ∙ c.if-idle_line.false) c.if-left-eq0.true) ∙ c.loop-i.invariant.3
+pub loop-preserved : goal.loop-preserved
+loop-preserved c =
+    let s = c.args.text.now in
+    let k = c.args.k in
+    let l = c.loop in
+    let line = c.in-Ok.line in
+    let n = c.in-Ok.ensures in
+    let e : k - (l.counter + 1) ≡ k - l.counter - 1 = omega arith in
+    rw e (left_next s k (k - l.counter) line.start line.number line.end (left_walked s k (k - l.counter) l.i l.number line.start line.number n.0 l.invariant) n.1 n.2 n.3 (λ z. omega arith))
 
-pub loop-i-preserved : goal.loop-i-preserved
-loop-i-preserved c = (search rules, search rules, search rules, sym (counting_more (length c.args.text.now + 2 - c.loop-i.line) (length c.args.text.now + 2 - (c.loop-i.line + 1)) c.args.text.now c.loop-i.i c.loop-i.line c.loop-i.left c.line_end-e.result (omega arith) (omega arith) c.line_end-e.ensures.0 (sym c.idle_line.ensures ∙ c.if-idle_line.false) c.if-left-eq0.false) ∙ c.loop-i.invariant.3)
+pub returns-in-Ok-next_counted : goal.returns-in-Ok-next_counted
+returns-in-Ok-next_counted c =
+    let s = c.args.text.now in
+    let k = c.args.k in
+    let l = c.loop in
+    let line = c.in-Ok-next_counted.line in
+    let n = c.in-Ok-next_counted.ensures in
+    left_here s k (k - l.counter) line.start line.number line.end (left_walked s k (k - l.counter) l.i l.number line.start line.number n.0 l.invariant) n.1 n.2 n.3 (omega arith)
 
-pub returns : goal.returns
-returns c = sym (counting_over (length c.args.text.now + 2 - c.loop-i.line) c.args.text.now c.loop-i.i c.loop-i.line c.loop-i.left (omega arith)) ∙ c.loop-i.invariant.3
+pub returns-in-Err : goal.returns-in-Err
+returns-in-Err c =
+    let s = c.args.text.now in
+    let k = c.args.k in
+    let l = c.loop in
+    let n = c.in-Err.ensures in
+    left_over s k (k - l.counter) n.0 c.in-Err.field-0 (left_walked s k (k - l.counter) l.i l.number n.0 c.in-Err.field-0 n.1 l.invariant) n.2

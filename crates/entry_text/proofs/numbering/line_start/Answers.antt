@@ -1,19 +1,23 @@
--- `entry_text::numbering::line_start` meets its contract. Assumes nothing.
-use borrow.Author.Rules.{rules}
-use Prim.Native.Nat.{◌-◌}
-use mathlib.Core.Path.{◌≡◌, refl, ap, ◌∙◌}
-use native.Mathlib.Omega.{arith}
+-- `line_start` meets its contract: each turn passes a line. Assumes nothing.
+use Rattle.std.proofs.Common.{◌≡◌, ◌+◌, ◌-◌, refl, arith}
+use Rattle.basics.proofs.Bools.{by_le}
 use Rattle.entry_text.specs.Lines.{after_lines, line_start}
 use Rattle.entry_text.proofs.LineLaws.{line_turn}
 use Rattle.entry_text.proofs.numbering.line_start.Goals as goal
 
-pub loop-k-init : goal.loop-k-init
+pub loop-init : goal.loop-init
 unfolding after_lines
-loop-k-init c = (search rules, search rules, refl)
+loop-init c = (omega arith, refl, omega arith)
 
-pub loop-k-preserved : goal.loop-k-preserved
-loop-k-preserved c = (search rules, search rules, line_turn c.args.text.now c.loop-k.k c.loop-k.i _ c.loop-k.invariant.2 c.next_line-i.ensures.0)
+pub loop-preserved : goal.loop-preserved
+loop-preserved c =
+    let l = c.loop in
+    let e : l.counter + 1 - 1 ≡ l.counter - 1 + 1 = omega arith in
+    (omega arith, rw e (line_turn c.args.text.now (l.counter - 1) l.i _ l.invariant.1 c.next_line-i.ensures.0), omega arith)
 
 pub returns : goal.returns
 unfolding line_start
-returns c = let e : c.loop-k.k ≡ c.args.line - 1 = omega (arith, c.less_one-before.ensures) in (c.loop-k.invariant.2 ∙ ap (after_lines c.args.text.now) e, search rules)
+returns c =
+    let l = c.loop in
+    let e : l.counter - 1 ≡ c.args.line - 1 = by_le 1 c.args.line (λ h. let u = l.auto.counter-end h in omega arith) (λ h. omega arith) in
+    (rw e at l.invariant.1, omega arith)

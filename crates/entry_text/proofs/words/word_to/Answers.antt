@@ -1,29 +1,11 @@
--- `entry_text::words::word_to` meets its contract. Assumes nothing.
-use borrow.Author.Rules.{rules}
-use mathlib.Core.Path.{refl, ◌∙◌, sym}
-use native.Mathlib.Omega.{arith}
-use Rattle.entry_text.proofs.Places.{to_on, to_here, to_over}
+-- `word_to` meets its contract: it is the place that is sought. Assumes nothing.
+use Rattle.entry_text.specs.Entries.{byte, is_space, word_to}
+use Rattle.entry_text.proofs.Places.{sought}
 use Rattle.entry_text.proofs.words.word_to.Goals as goal
 
-pub loop-i-init : goal.loop-i-init
-loop-i-init c = (search rules, search rules, refl)
-
-pub returns-then-is_space : goal.returns-then-is_space
-returns-then-is_space c =
-    let args = c.args in
-    let loop = c.loop-i in
-    let is-space = c.is_space in
-    (sym (to_here args.text.now loop.i args.e (omega arith) (sym is-space.ensures ∙ c.if-is_space.true)) ∙ loop.invariant.2, search rules, search rules)
-
-pub loop-i-preserved : goal.loop-i-preserved
-loop-i-preserved c =
-    let args = c.args in
-    let loop = c.loop-i in
-    let is-space = c.is_space in
-    (search rules, search rules, to_on args.text.now loop.i args.e (omega arith) (sym is-space.ensures ∙ c.if-is_space.false) ∙ loop.invariant.2)
-
 pub returns : goal.returns
+unfolding word_to
 returns c =
-    let args = c.args in
-    let loop = c.loop-i in
-    (sym (to_over args.text.now loop.i args.e (omega arith)) ∙ loop.invariant.2, search rules, search rules)
+    let s = c.args.text.now in
+    let f = c.first_place.ensures in
+    (sought (λ x. is_space (byte s x)) c.args.start (c.args.e) c.first_place.result f.bounds.0 f.bounds.1 f.before f.here, f.bounds.0, f.bounds.1)

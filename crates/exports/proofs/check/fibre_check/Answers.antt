@@ -4,4 +4,4 @@ use Rattle.exports.proofs.check.fibre_check.Goals as goal
 
 pub returns : goal.returns
 returns c = let a = c.args in
-    check_exported _ a.circuits.now a.fibres.now a.assignments.now _ _ c.flattened.ensures c.check_plan-f.ensures
+    check_exported _ a.circuits.now a.fibres.now a.assignments.now _ _ c.from.ensures c.check_plan-finding.ensures

@@ -3,4 +3,4 @@ use Rattle.exports.proofs.ToldMending.{mend_exported}
 use Rattle.exports.proofs.mend.fibre_mend.Goals as goal
 
 pub returns : goal.returns
-returns c = mend_exported _ _ _ _ _ _ _ c.flattened.ensures c.mend-a.ensures
+returns c = mend_exported _ _ _ _ _ _ _ c.from.ensures c.mend-answer.ensures

@@ -15,8 +15,8 @@ pub returns : goal.returns
 unfolding put_line
 returns c =
     let write-line = c.write_line in
-    let circuit-at = c.circuit_at-c in
-    let assignment_at_lem = c.assignment_at-was in
+    let circuit-at = c.record_at-c in
+    let assignment_at_lem = c.record_at-was in
     let a = c.args in
     let R = a.report.now in
     let its : Circuit → AssignmentRecord → List ℕ = λ x y. line_bytes (begun_with (record { circuit = x.number; fibre = y.fibre; wavelength = y.wavelength }) a.j) in

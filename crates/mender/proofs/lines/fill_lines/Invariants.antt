@@ -1,5 +1,5 @@
 -- `fill_lines` meets its contract: line by line. Assumes nothing.
-use Prim.Native.Nat.{ℕ, ◌+◌, ◌-◌, ◌*◌, ◌<◌, ◌≤◌}
+use Prim.Native.Nat.{ℕ, ◌+◌, ◌*◌, ◌<◌, ◌≤◌}
 use mathlib.Core.Path.{◌≡◌}
 use mathlib.Core.List.{List, ◌++◌, map}
 use lib.ListN.{length, get_or}
@@ -9,9 +9,5 @@ use Rattle.mender.proofs.Lining.{Filling}
 use Rattle.mender.proofs.lines.fill_lines.Given as goal
 
 abbrev pub invariant-loop-t : goal.invariant-loop-t
-invariant-loop-t l = (l.t ≤ l.k) × (length l.report ≡ length l.initial.report)
-    × ((s before js rest : List ℕ) → length js ≡ l.k → ((r : ℕ) → r < l.k → 8 * get_or js r 0 + 8 ≤ length l.assigns)
-    → l.initial.report ≡ report_bytes (map (begun_line s before) js) ++ rest → Filling s before l.assigns js rest l.t l.report)
-
-abbrev pub decreases-loop-t : goal.decreases-loop-t
-decreases-loop-t l = l.k - l.t
+invariant-loop-t l = (s before js rest : List ℕ) → length js ≡ l.k → ((r : ℕ) → r < l.k → 8 * get_or js r 0 + 8 ≤ length l.assigns)
+    → l.initial.report ≡ report_bytes (map (begun_line s before) js) ++ rest → Filling s before l.assigns js rest l.t l.report

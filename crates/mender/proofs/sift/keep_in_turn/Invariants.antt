@@ -1,5 +1,4 @@
 -- `keep_in_turn` meets its contract: circuit by circuit, by rising number. Assumes nothing.
-use Prim.Native.Nat.{◌-◌, ◌≤◌}
 use mathlib.Core.Path.{◌≡◌}
 use lib.ListN.{length}
 use Rattle.records.specs.Bytes.{cells_of}
@@ -7,8 +6,4 @@ use Rattle.mender.proofs.Sifting.{Keeping}
 use Rattle.mender.proofs.sift.keep_in_turn.Given as goal
 
 abbrev pub invariant-loop-t : goal.invariant-loop-t
-invariant-loop-t l = (l.t ≤ l.m) × (length l.kept ≡ length l.initial.kept) × (length l.ends ≡ length l.initial.ends) × (length l.heads ≡ length l.initial.heads) × (length l.next ≡ length l.initial.next)
-    × Keeping l.w l.m l.many l.circuits l.fibres l.assigns (cells_of l.order) l.t l.kept l.ends l.heads l.next
-
-abbrev pub decreases-loop-t : goal.decreases-loop-t
-decreases-loop-t l = l.m - l.t
+invariant-loop-t l = (length l.kept ≡ 2048) × Keeping l.damaged.wavelengths l.damaged.m l.damaged.many l.damaged.circuits.now l.damaged.fibres.now l.damaged.assigns.now (cells_of l.order) l.t l.kept l.ends l.chains.heads l.chains.next

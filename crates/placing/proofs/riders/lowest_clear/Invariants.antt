@@ -1,12 +1,9 @@
 -- `lowest_clear` meets its contract: a search by one entry. Assumes nothing.
-use Prim.Native.Nat.{suc, ◌-◌, ◌≤◌}
+use Prim.Native.Nat.{suc, ◌-◌}
 use mathlib.Core.Path.{◌≡◌}
 use Rattle.basics.specs.Tools.{seek}
 use Rattle.placing.specs.inner.Marking.{clear}
 use Rattle.placing.proofs.riders.lowest_clear.Given as goal
 
 abbrev pub invariant-loop-v : goal.invariant-loop-v
-invariant-loop-v l = (l.lo ≤ l.v) × (seek (clear l.busy) l.v (suc l.hi - l.v) ≡ seek (clear l.busy) l.lo (suc l.hi - l.lo))
-
-abbrev pub decreases-loop-v : goal.decreases-loop-v
-decreases-loop-v l = suc l.hi - l.v
+invariant-loop-v l = seek (clear l.busy) l.v (suc l.hi - l.v) ≡ seek (clear l.busy) l.lo (suc l.hi - l.lo)

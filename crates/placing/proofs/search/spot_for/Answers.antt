@@ -1,86 +1,81 @@
 -- `spot_for` meets its contract: no fibre passed has a place for the circuit, and the corners stay right. Assumes nothing.
-use borrow.Author.Rules.{rules}
-use Prim.Native.Nat.{◌+◌, ◌<◌}
-use mathlib.Core.Path.{◌∙◌, refl}
+use Prim.Native.Nat.{◌+◌}
+use mathlib.Core.Path.{◌∙◌, sym}
 use native.Mathlib.Omega.{arith}
-use Rattle.placing.specs.inner.Spots.{open_to, spans_in}
-use Rattle.placing.proofs.SpotLaws.{chained_here, length_spans_in, none_more, none_skipped, offer_free, open_spans, search_goes, spot_found, spot_none}
+use Rattle.placing.specs.inner.Spots.{spans_in}
+use Rattle.placing.proofs.SpotLaws.{chained_here, length_spans_in, next_none, next_some, none_more, none_skipped, offer_free, open_spans, spot_found, spot_none}
 use Rattle.placing.proofs.search.spot_for.Goals as goal
 
-pub loop-i-init : goal.loop-i-init
-loop-i-init c =
-    let a = c.args in
-    let p = c.requires.many_bound in
-    let e = c.next_open-i.ensures in
-    let g = search_goes (open_to a.firsts.now a.lasts.now a.untils.now a.froms.now a.c) a.many 0 _ (omega arith) e in (
-      g.1,
-      refl,
-      refl,
-      open_spans a.many a.firsts.now a.lasts.now a.untils.now a.froms.now a.c 0 _ e,
-      λ rs h k. (none_skipped a.many a.lo a.hi a.firsts.now a.lasts.now a.untils.now a.froms.now rs a.c 0 _ (omega arith) p.5 k e (λ y l b. absurd (omega arith)), k),
-    )
+pub overflow_add-i : goal.overflow_add-i
+overflow_add-i c = let a = c.args in let n = next_some _ a.many c.loop-i.from c.in-Some.i c.loop-i.invariant.0 (sym c.in-Some.is ∙ c.next_open.ensures) in let n₂ = n.2 in omega (arith, c.requires.numbers.0)
 
-pub offer-v-requires : goal.offer-v-requires
-offer-v-requires c =
+pub offer-requires-clause-numbers : goal.offer-requires-clause-numbers
+offer-requires-clause-numbers c =
     let a = c.args in
-    let x = c.requires.riding in
-    let l = c.loop-i in record {
-      le_q = search rules;
-      chained = (x.0, chained_here a.many l.i _ x.0 a.ends.now a.assigns.now a.heads.now a.next.now (search rules) c.index-h.ensures.0 x.1);
-    }
+    let p = c.requires.numbers in
+    let n = next_some _ a.many c.loop-i.from c.in-Some.i c.loop-i.invariant.0 (sym c.in-Some.is ∙ c.next_open.ensures) in
+    (omega arith, omega (arith, n.2, p.0))
 
-pub returns-then-v-hi : goal.returns-then-v-hi
-returns-then-v-hi c =
+pub offer-requires-clause-chained : goal.offer-requires-clause-chained
+offer-requires-clause-chained c =
     let a = c.args in
-    let p = c.requires.many_bound in
+    let y = c.requires.riding in
+    let n = next_some _ a.many c.loop-i.from c.in-Some.i c.loop-i.invariant.0 (sym c.in-Some.is ∙ c.next_open.ensures) in
+    (y.0, chained_here a.many c.in-Some.i y.0 a.ends.now a.assigns.now a.chains.now.heads a.chains.now.next n.2 y.1)
+
+pub overflow_add-result : goal.overflow_add-result
+overflow_add-result c = let a = c.args in let n = next_some _ a.many c.loop-i.from c.in-Some.i c.loop-i.invariant.0 (sym c.in-Some.is ∙ c.next_open.ensures) in let n₂ = n.2 in omega (arith, c.requires.numbers.0)
+
+pub overflow_cast-result : goal.overflow_cast-result
+overflow_cast-result c = let a = c.args in let n = next_some _ a.many c.loop-i.from c.in-Some.i c.loop-i.invariant.0 (sym c.in-Some.is ∙ c.next_open.ensures) in let n₂ = n.2 in omega (arith, c.requires.numbers.0)
+
+pub returns-in-Some-offer : goal.returns-in-Some-offer
+returns-in-Some-offer c =
+    let a = c.args in
+    let p = c.requires.numbers in
     let l = c.loop-i in
-    let below : l.i < a.many = search rules in λ rs h k.
-    let y = l.invariant.4 rs h k in
-    let o = c.offer-v.ensures a.many rs (omega arith) p.0 (chained_here a.many l.i _ rs a.ends.now a.assigns.now a.heads.now a.next.now below c.index-h.ensures.0 h) y.1 in
-    let fs = spans_in a.many a.firsts.now a.lasts.now in
-    let n = length_spans_in a.many a.firsts.now a.lasts.now in
-    let offers = offer_free fs a.lo a.hi rs a.c (l.i + 1) c.offer-v.result (l.invariant.3 below) o.0 in
-    (spot_found fs a.lo a.hi rs a.c (l.i + 1) c.offer-v.result (omega arith) (omega arith) y.0 offers (omega arith), o.1)
+    let i = c.in-Some.i in
+    let n = next_some _ a.many l.from i l.invariant.0 (sym c.in-Some.is ∙ c.next_open.ensures) in
+    let below = n.2 in λ rs h k.
+    let y = l.invariant.1 rs h k in
+    let o = c.in-Some-offer.ensures a.many rs (omega arith) p.0 (chained_here a.many i rs a.ends.now a.assigns.now a.chains.now.heads a.chains.now.next below h) y.1 in
+    let fs = spans_in a.many a.spans.now.firsts a.spans.now.lasts in
+    let size = length_spans_in a.many a.spans.now.firsts a.spans.now.lasts in
+    let offers = offer_free fs a.waves.low a.waves.high rs a.c (i + 1) _ (open_spans a.many a.spans.now.firsts a.spans.now.lasts _ _ a.c l.from i n.0 below) o.0 in
+    let none = none_skipped a.many a.waves.low a.waves.high a.spans.now.firsts a.spans.now.lasts _ _ rs a.c l.from i (omega arith) p.1 y.1 (omega (arith, n.0)) y.0 in
+    (spot_found fs a.waves.low a.waves.high rs a.c (i + 1) c.in-Some-offer.v (omega arith) (omega arith) none offers, o.1)
 
-pub next_open-i-requires-in-loop-i : goal.next_open-i-requires-in-loop-i
-next_open-i-requires-in-loop-i c =
-    let p = c.requires.many_bound in
-    let l = c.loop-i in
-    let o = c.offer-v in
-    (search rules, p.0, (p.6.0, p.6.1, o.auto.untils ∙ l.invariant.1 ∙ p.6.2, o.auto.froms ∙ l.invariant.2 ∙ p.6.3))
+pub overflow_add-from : goal.overflow_add-from
+overflow_add-from c = let a = c.args in let n = next_some _ a.many c.loop-i.from c.in-Some.i c.loop-i.invariant.0 (sym c.in-Some.is ∙ c.next_open.ensures) in let n₂ = n.2 in omega (arith, c.requires.numbers.0)
 
 pub loop-i-smaller : goal.loop-i-smaller
-loop-i-smaller c =
-    let a = c.args in
-    let l = c.loop-i in
-    let g = search_goes _ a.many (l.i + 1) _ (search rules) c.next_open-i-in-loop-i.ensures in
-    search rules
+loop-i-smaller c = let a = c.args in let n = next_some _ a.many c.loop-i.from c.in-Some.i c.loop-i.invariant.0 (sym c.in-Some.is ∙ c.next_open.ensures) in let n₁ = n.1 in let n₂ = n.2 in omega arith
 
 pub loop-i-preserved : goal.loop-i-preserved
 loop-i-preserved c =
     let a = c.args in
-    let p = c.requires.many_bound in
+    let p = c.requires.numbers in
     let l = c.loop-i in
-    let e = c.next_open-i-in-loop-i.ensures in
-    let below : l.i < a.many = search rules in
-    let g = search_goes _ a.many (l.i + 1) _ (omega arith) e in (
-      g.1,
-      search rules,
-      search rules,
-      open_spans a.many a.firsts.now a.lasts.now _ _ a.c (l.i + 1) _ e,
+    let i = c.in-Some.i in
+    let n = next_some _ a.many l.from i l.invariant.0 (sym c.in-Some.is ∙ c.next_open.ensures) in
+    let below = n.2 in (
+      omega arith,
       λ rs h k.
-          let y = l.invariant.4 rs h k in
-          let o = c.offer-v.ensures a.many rs (omega arith) p.0 (chained_here a.many l.i _ rs a.ends.now a.assigns.now a.heads.now a.next.now below c.index-h.ensures.0 h) y.1 in
-          let fs = spans_in a.many a.firsts.now a.lasts.now in
-          let offers = offer_free fs a.lo a.hi rs a.c (l.i + 1) c.offer-v.result (l.invariant.3 below) o.0 in
-          let none = none_more fs a.lo a.hi rs a.c (l.i + 1) c.offer-v.result offers (search rules) y.0 in
-          (none_skipped a.many a.lo a.hi a.firsts.now a.lasts.now _ _ rs a.c (l.i + 1) _ (omega arith) p.5 o.1 e none, o.1),
+          let y = l.invariant.1 rs h k in
+          let o = c.in_default-offer.ensures a.many rs (omega arith) p.0 (chained_here a.many i rs a.ends.now a.assigns.now a.chains.now.heads a.chains.now.next below h) y.1 in
+          let fs = spans_in a.many a.spans.now.firsts a.spans.now.lasts in
+          let offers = offer_free fs a.waves.low a.waves.high rs a.c (i + 1) _ (open_spans a.many a.spans.now.firsts a.spans.now.lasts _ _ a.c l.from i n.0 below) o.0 in
+          let none = none_skipped a.many a.waves.low a.waves.high a.spans.now.firsts a.spans.now.lasts _ _ rs a.c l.from i (omega arith) p.1 y.1 (omega (arith, n.0)) y.0 in
+          (none_more fs a.waves.low a.waves.high rs a.c (i + 1) offers none, o.1),
     )
 
 pub returns : goal.returns
 returns c =
     let a = c.args in
-    let l = c.loop-i in λ rs h k.
-    let n = length_spans_in a.many a.firsts.now a.lasts.now in
-    let y = l.invariant.4 rs h k in
-    (spot_none (spans_in a.many a.firsts.now a.lasts.now) a.lo a.hi rs a.c (l.i + 1) (omega arith) y.0, y.1)
+    let p = c.requires.numbers in
+    let l = c.loop-i in
+    let last = next_none _ a.many l.from (sym c.in_default.is ∙ c.next_open.ensures) in λ rs h k.
+    let n = length_spans_in a.many a.spans.now.firsts a.spans.now.lasts in
+    let y = l.invariant.1 rs h k in
+    let none = none_skipped a.many a.waves.low a.waves.high a.spans.now.firsts a.spans.now.lasts _ _ rs a.c l.from a.many (omega arith) p.1 y.1 last y.0 in
+    (spot_none (spans_in a.many a.spans.now.firsts a.spans.now.lasts) a.waves.low a.waves.high rs a.c (a.many + 1) (omega arith) none, y.1)

@@ -1,5 +1,4 @@
 -- `place_in_turn` meets its contract: after t turns the first t are placed. Assumes nothing.
-use Prim.Native.Nat.{◌-◌, ◌≤◌}
 use lib.ListN.{length}
 use mathlib.Core.List.{List}
 use mathlib.Core.Path.{◌≡◌}
@@ -15,9 +14,5 @@ use Rattle.placing.proofs.turns.place_in_turn.Given as goal
 
 abbrev pub invariant-loop-t : goal.invariant-loop-t
 invariant-loop-t l =
-    (l.t ≤ l.k) × (length l.assigns ≡ length l.initial.assigns) × (length l.ends ≡ length l.initial.ends) × (length l.heads ≡ length l.initial.heads) × (length l.next ≡ length l.initial.next) × (length l.untils ≡ length l.initial.untils) × (length l.froms ≡ length l.initial.froms)
-    × ((old : List Rider) (gs : List Assignment) → length old ≡ l.sizes.before → InTurn l.sizes.circuits gs (cells_of l.order) → Standing l.sizes.fibres l.sizes.wavelengths old (circuits_in l.sizes.circuits l.new) gs l.initial.ends l.initial.assigns l.initial.heads l.initial.next l.initial.untils l.initial.froms
-    → Turning (spans_in l.sizes.fibres l.firsts l.lasts) l.sizes.fibres l.sizes.wavelengths old (circuits_in l.sizes.circuits l.new) gs (cells_of l.order) l.t l.initial.assigns l.ends l.assigns l.heads l.next l.untils l.froms)
-
-abbrev pub decreases-loop-t : goal.decreases-loop-t
-decreases-loop-t l = l.k - l.t
+    (old : List Rider) (gs : List Assignment) → length old ≡ l.sizes.before → InTurn l.sizes.circuits gs (cells_of l.order) → Standing l.sizes.fibres l.sizes.wavelengths old (circuits_in l.sizes.circuits l.new) gs l.initial.ends l.initial.assigns l.initial.chains.heads l.initial.chains.next l.initial.corners.untils l.initial.corners.froms
+    → Turning (spans_in l.sizes.fibres l.spans.firsts l.spans.lasts) l.sizes.fibres l.sizes.wavelengths old (circuits_in l.sizes.circuits l.new) gs (cells_of l.order) l.t l.initial.assigns l.ends l.assigns l.chains.heads l.chains.next l.corners.untils l.corners.froms

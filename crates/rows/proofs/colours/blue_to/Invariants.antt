@@ -6,7 +6,4 @@ use Rattle.rows.specs.inner.Colours.{shown}
 use Rattle.rows.proofs.colours.blue_to.Given as goal
 
 abbrev pub invariant-loop-i : goal.invariant-loop-i
-invariant-loop-i l = (1 ≤ l.i) × (l.i ≤ l.stop) × ((x : ℕ) → l.i ≤ x → x < l.stop → at (shown l.n l.k (cells_of l.lasts)) x ≡ blue)
-
-abbrev pub decreases-loop-i : goal.decreases-loop-i
-decreases-loop-i l = l.i
+invariant-loop-i l = (1 ≤ l.i) × ((x : ℕ) → l.i ≤ x → x < l.stop → at (shown l.n l.k (cells_of l.lasts)) x ≡ blue)

@@ -1,12 +1,9 @@
 -- `paint`: links from `start` to before i have the last row. Assumes nothing.
 use Rattle.std.proofs.Common.{refl, ◌∙◌, arith, rules}
 use Rattle.records.proofs.CellLaws.{length_cells_of, stored}
-use Rattle.rows.proofs.Written.{written_start, written_turn}
+use Rattle.rows.proofs.Written.{written_turn}
 use Rattle.rows.proofs.ColourLaws.{paint_done}
 use Rattle.rows.proofs.colours.paint.Goals as goal
-
-pub loop-i-init : goal.loop-i-init
-loop-i-init c = (search rules, written_start _ _ _, refl)
 
 pub loop-i-preserved : goal.loop-i-preserved
 loop-i-preserved c =

@@ -1,48 +1,33 @@
 -- `last_reds`: the first i links have their last red row. Assumes nothing.
-use Rattle.std.proofs.Common.{ℕ, ◌-◌, ◌*◌, refl, ap, ◌∙◌, arith, rules}
+use Rattle.std.proofs.Common.{ℕ, ◌-◌, ◌*◌, ap, ◌∙◌, arith}
 use Rattle.records.specs.Bytes.{cells_of}
 use Rattle.records.proofs.CellLaws.{length_cells_of}
-use Rattle.rows.proofs.Written.{written_start}
-use Rattle.rows.proofs.RedLaws.{red_low, red_need, red_need_low, red_turn, red_done}
+use Rattle.rows.proofs.RedLaws.{red_need, red_need_low, red_turn, red_done}
 use Rattle.rows.proofs.loads.last_reds.Goals as goal
-
-pub loop-i-init : goal.loop-i-init
-loop-i-init c = (search rules, record { front = refl; back = written_start _ _ _ }, refl)
 
 pub overflow_sub-r : goal.overflow_sub-r
 overflow_sub-r c =
     let l = c.loop-i in
     let get = c.get-c in
     let a = c.args in
-    let v = red_need a.n l.i get.result _ (cells_of a.cells.now) l.cells l.invariant.1 (omega arith) (omega arith) get.ensures in
+    let v = red_need a.n l.i get.result _ (cells_of a.cells.now) l.cells l.invariant.0 (omega arith) (omega arith) get.ensures in
     let z = red_need_low a.n l.i get.result a.most (cells_of a.cells.now) c.requires.3 (omega arith) v in
     omega arith
-
-pub overflow_mul-r : goal.overflow_mul-r
-overflow_mul-r c =
-    let a = c.args in
-    omega (arith, red_low a.most a.w c.index.result 65534 (omega arith))
-
-pub overflow_cast-r : goal.overflow_cast-r
-overflow_cast-r c =
-    let a = c.args in
-    omega (arith, red_low a.most a.w c.index.result 65534 (omega arith))
 
 pub loop-i-preserved : goal.loop-i-preserved
 loop-i-preserved c =
     let l = c.loop-i in
     let get = c.get-c in
-    let index = c.index in
+    let from = c.from in
     let put = c.put in
     let a = c.args in
-    let v = red_need a.n l.i get.result _ (cells_of a.cells.now) l.cells l.invariant.1 (omega arith) (omega arith) get.ensures in (
-      search rules,
-      red_turn a.n l.i _ _ _ _ _ l.invariant.1 (length_cells_of a.cells.now (2 * a.n) (omega arith)) (omega arith) put.ensures (ap (λ (z : ℕ). (a.most - z) * a.w) (index.ensures.0 ∙ v)),
-      put.auto.work ∙ l.invariant.2,
+    let v = red_need a.n l.i get.result _ (cells_of a.cells.now) l.cells l.invariant.0 (omega arith) (omega arith) get.ensures in (
+      red_turn a.n l.i _ _ _ _ _ l.invariant.0 (length_cells_of a.cells.now (2 * a.n) (omega arith)) (omega arith) put.ensures (ap (λ (z : ℕ). (a.most - z) * a.w) (from.ensures ∙ v)),
+      put.auto.work ∙ l.invariant.1,
     )
 
 pub returns : goal.returns
 returns c =
     let l = c.loop-i in
     let a = c.args in
-    (omega arith, l.invariant.1.front, red_done a.n l.i _ _ _ l.invariant.1 (length_cells_of a.cells.now (2 * a.n) (omega arith)) (omega arith))
+    (omega arith, l.invariant.0.front, red_done a.n l.i _ _ _ l.invariant.0 (length_cells_of a.cells.now (2 * a.n) (omega arith)) (omega arith))

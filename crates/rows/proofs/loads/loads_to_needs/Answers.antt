@@ -1,48 +1,42 @@
--- `loads_to_needs`: links before i have their c(i), `most` is the largest of them. Assumes nothing.
-use Rattle.std.proofs.Common.{◌≡◌, ◌-◌, max, sym, refl, ap, ◌∙◌, ap₂, arith, rules}
+-- `loads_to_needs`: the first i links have their c(i), `most` is the largest of them. Assumes nothing.
+use Rattle.std.proofs.Common.{◌≡◌, ◌+◌, max, refl, ap, ◌∙◌, ap₂, arith, rules}
 use Rattle.basics.specs.Tools.{top}
-use Rattle.basics.proofs.Counts.{top_more}
+use native.Mathlib.Numerals.{add-one}
 use Rattle.records.specs.Bytes.{cells_of}
 use Rattle.records.proofs.CellLaws.{length_cells_of, stored}
 use Rattle.rows.specs.inner.Loads.{rounded, rounded_at}
-use Rattle.rows.proofs.Written.{written_start, written_turn, written_all, read}
+use Rattle.rows.proofs.Written.{written_start, written_next, written_all, read_next}
 use Rattle.rows.proofs.LoadLaws.{below_at}
 use Rattle.rows.proofs.loads.loads_to_needs.Goals as goal
 
 pub loop-i-init : goal.loop-i-init
 unfolding top
-loop-i-init c = (search rules, search rules, written_start _ _ _, refl, refl)
+loop-i-init c = (written_start _ _ _, refl, refl)
 
 pub needed-c-requires : goal.needed-c-requires
 needed-c-requires c =
     let l = c.loop-i in
-    let get = c.get-v in
     let a = c.args in
-    let v = read l.cells l.i get.result (omega arith) (omega arith) get.ensures in
-    let y = l.invariant.2.late l.i (omega arith) in
-    let z = below_at 2048 (cells_of a.cells.now) l.i c.requires.4 in
+    let v = read_next _ l.cells l.i _ _ l.invariant.0 (omega arith) c.get-v.ensures in
+    let z = below_at 2048 (cells_of a.cells.now) (l.i + 1) c.requires.4 in
     (search rules, search rules, omega arith)
 
 pub loop-i-preserved : goal.loop-i-preserved
-unfolding rounded_at
+unfolding rounded_at top
 loop-i-preserved c =
     let l = c.loop-i in
-    let get = c.get-v in
-    let needed = c.needed-c in
     let put = c.put in
     let a = c.args in
-    let v = read l.cells l.i get.result (omega arith) (omega arith) get.ensures in
-    let q : needed.result ≡ rounded_at a.w (cells_of a.cells.now) l.i = needed.ensures ∙ ap (rounded a.w) (v ∙ l.invariant.2.late l.i (omega arith)) in (
-      search rules,
-      search rules,
-      written_turn _ _ l.i _ _ _ _ l.invariant.2 (stored _ _ _ _ put.ensures) q (omega arith) (omega (arith, length_cells_of a.cells.now a.n (omega arith))),
-      put.auto.work ∙ l.invariant.3,
-      c.larger-most.ensures ∙ ap₂ max q l.invariant.4 ∙ sym (top_more _ l.i (omega arith)),
+    let v = read_next _ l.cells l.i _ _ l.invariant.0 (omega arith) c.get-v.ensures in
+    let q = c.needed-c.ensures ∙ ap (rounded a.w) v in (
+      written_next _ l.i _ _ _ _ l.invariant.0 (stored _ _ _ _ put.ensures) q (omega (arith, length_cells_of a.cells.now a.n (omega arith))),
+      put.auto.work ∙ l.invariant.1,
+      c.max-most.ensures ∙ ap₂ max q l.invariant.2 ∙ rw add-one,
     )
 
 pub returns : goal.returns
 returns c =
     let l = c.loop-i in
     let a = c.args in
-    let e : l.i - 1 ≡ a.n = omega arith in
-    (l.invariant.4 ∙ ap (top _) e, written_all _ _ l.i _ _ l.invariant.2 (length_cells_of a.cells.now a.n (omega arith)) (omega arith))
+    let e : l.i ≡ a.n = omega arith in
+    (l.invariant.2 ∙ ap (top _) e, written_all _ _ (l.i + 1) _ _ l.invariant.0 (length_cells_of a.cells.now a.n (omega arith)) (omega arith))

@@ -1,5 +1,5 @@
--- `loads_to_needs`: links before i have their c(i), `most` is the largest of them. Assumes nothing.
-use Rattle.std.proofs.Common.{◌≡◌, ◌-◌, ◌≤◌, length}
+-- `loads_to_needs`: the first i links have their c(i), `most` is the largest of them. Assumes nothing.
+use Rattle.std.proofs.Common.{◌≡◌, ◌+◌, length}
 use Rattle.basics.specs.Tools.{top}
 use Rattle.records.specs.Bytes.{cells_of}
 use Rattle.rows.specs.inner.Loads.{rounded_at}
@@ -7,7 +7,4 @@ use Rattle.rows.specs.inner.Loops.{Written}
 use Rattle.rows.proofs.loads.loads_to_needs.Given as goal
 
 abbrev pub invariant-loop-i : goal.invariant-loop-i
-invariant-loop-i l = (1 ≤ l.i) × (l.i ≤ l.e) × Written (rounded_at l.w (cells_of l.initial.cells)) 1 l.i (cells_of l.initial.cells) (cells_of l.cells) × (length l.cells ≡ length l.initial.cells) × (l.most ≡ top (rounded_at l.w (cells_of l.initial.cells)) (l.i - 1))
-
-abbrev pub decreases-loop-i : goal.decreases-loop-i
-decreases-loop-i l = l.e - l.i
+invariant-loop-i l = Written (rounded_at l.w (cells_of l.initial.cells)) 1 (l.i + 1) (cells_of l.initial.cells) (cells_of l.cells) × (length l.cells ≡ length l.initial.cells) × (l.most ≡ top (rounded_at l.w (cells_of l.initial.cells)) l.i)

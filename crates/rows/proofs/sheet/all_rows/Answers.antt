@@ -16,17 +16,15 @@ loop-k-init c =
     let u = c.line_up-waiting.ensures in
     let a = c.args in
     let d = c.requires.accepted.1 in (
-      search rules,
-      search rules,
-      record { desk = desk_on a.size.links a.size.circuits _ _ _ _ _ d.desk d.desk.room u.0; sheet = d.sheet },
-      first_queued a.size.links a.size.circuits a.w _ _ _ _ (length_circuits_in a.size.circuits a.circuits.now) d.sheet u.1,
+      record { desk = desk_on a.file.links a.file.many _ _ _ _ _ d.desk d.desk.room u.0; sheet = d.sheet },
+      first_queued a.file.links a.file.many a.w _ _ _ _ (length_circuits_in a.file.many a.file.circuits.now) d.sheet u.1,
     )
 
 pub shorten-waiting-requires : goal.shorten-waiting-requires
 shorten-waiting-requires c =
     let v = c.loop-k.invariant in
-    let d = v.2.desk in
-    let q = v.3 in
+    let d = v.0.desk in
+    let q = v.1 in
     ((d.file.few, d.columns, q.ends.0, q.ends.1), q.few.1)
 
 pub fill_row-waiting-requires : goal.fill_row-waiting-requires
@@ -34,10 +32,10 @@ fill_row-waiting-requires c =
     let v = c.loop-k.invariant in
     let u = c.shorten-waiting.ensures in
     let a = c.args in
-    let d = v.2.desk in
+    let d = v.0.desk in
     let r = c.requires.top_value.1 in record {
-      desk = desk_on a.size.links a.size.circuits _ _ _ _ _ d d.room u.0;
-      le_k = ((omega arith, omega arith), u.1 _ _ (first_there a.size.links a.size.circuits _ (length_circuits_in a.size.circuits a.circuits.now) d.file.lies) v.3);
+      desk = desk_on a.file.links a.file.many _ _ _ _ _ d d.room u.0;
+      le_k = ((omega arith, omega arith), u.1 _ _ (first_there a.file.links a.file.many _ (length_circuits_in a.file.many a.file.circuits.now) d.file.lies) v.1);
     }
 
 pub overflow_step-k : goal.overflow_step-k
@@ -54,26 +52,24 @@ loop-k-preserved c =
     let a = c.args in
     let p = c.requires.top_value in
     let r = p.1 in (
-      search rules,
-      search rules,
       record {
         desk = f.desk;
-        sheet = sheet_more a.size.links a.size.circuits a.w a.top l.k _ _ _ l.invariant.2.desk.file.lies (length_circuits_in a.size.circuits a.circuits.now) l.invariant.0 (omega arith) p.0 r l.invariant.2.sheet f.shows;
+        sheet = sheet_more a.file.links a.file.many a.w a.top l.k _ _ _ l.invariant.0.desk.file.lies (length_circuits_in a.file.many a.file.circuits.now) l.auto.k (omega arith) p.0 r l.invariant.0.sheet f.shows;
       },
       f.waits,
     )
 
 pub shape_of-work : goal.shape_of-work
 shape_of-work c =
-    c.loop-k.invariant.2.desk.room ∙ sym c.requires.accepted.1.desk.room
+    c.loop-k.invariant.0.desk.room ∙ sym c.requires.accepted.1.desk.room
 
 pub shape_of-list : goal.shape_of-list
 shape_of-list c =
-    c.loop-k.invariant.2.desk.columns ∙ sym c.requires.accepted.1.desk.columns
+    c.loop-k.invariant.0.desk.columns ∙ sym c.requires.accepted.1.desk.columns
 
 pub returns : goal.returns
 returns c =
     let l = c.loop-k in
     let a = c.args in
     let e : l.k - 1 ≡ a.top * a.w = omega arith in
-    subst (λ (k : ℕ). DeskAfter a.size.links a.size.circuits a.w k a.circuits.now l.work l.list) e l.invariant.2
+    subst (λ (k : ℕ). DeskAfter a.file.links a.file.many a.w k a.file.circuits.now l.work l.list) e l.invariant.0

@@ -8,5 +8,5 @@ pub returns : goal.returns
 returns c =
     let paint = c.paint in
     let a = c.args in
-    let t = painted_lasts a.size.links a.size.circuits a.start a.past a.v a.work.now _ _ c.requires.2 (paint.auto.lasts ∙ mid_len (2 * a.size.links) (4 * a.size.links) a.work.now (omega arith)) paint.ensures refl in
+    let t = painted_lasts a.file.links a.file.many a.start a.past a.v a.work.now _ _ c.requires.2 (paint.auto.lasts ∙ mid_len (2 * a.file.links) (4 * a.file.links) a.work.now (omega arith)) paint.ensures refl in
     record { room = search rules; needs = t.0; lasts = t.1; rows = t.2 }

@@ -13,7 +13,7 @@ unfolding put_assignment assignment_record
 returns c =
     let a = c.args in
     -- the number of circuit j
-    let number : c.circuit_at-c.result.number ≡ (circuit (circuits_in a.job.circuits a.circuits.now) a.j).number =
-    ap (λ x. x.number) (c.circuit_at-c.ensures ∙ sym (circuit_in_lem a.job.circuits a.circuits.now a.j c.requires.sources.1)) in
-    c.put_assignment.ensures
-    ∙ (λ i. put_record a.out.now a.j (assignment_bytes (record { circuit = number i; fibre = (c.place_of-p.ensures.fibre_is ∙ sym (zero-add _)) i; wavelength = c.place_of-p.ensures.wavelength_is i })))
+    let number : c.place_of-a.result.circuit ≡ (circuit (circuits_in a.job.circuits a.circuits.now) a.j).number =
+    c.place_of-a.ensures.number ∙ ap (λ x. x.number) (sym (circuit_in_lem a.job.circuits a.circuits.now a.j c.requires.sources.1)) in
+    c.put_record.ensures
+    ∙ (λ i. put_record a.out.now a.j (assignment_bytes (record { circuit = number i; fibre = (c.place_of-a.ensures.placed.fibre_is ∙ sym (zero-add _)) i; wavelength = c.place_of-a.ensures.placed.wavelength_is i })))

@@ -8,19 +8,16 @@ use Rattle.strands.proofs.assigns.write_assignments.Goals as goal
 
 pub loop-j-init : goal.loop-j-init
 unfolding records_to each assignment_records
-loop-j-init c = (omega arith, refl, refl)
+loop-j-init c = refl
 
 pub loop-j-preserved : goal.loop-j-preserved
 loop-j-preserved c =
     let o = c.write_assignment in
-    let a = c.args in (
-      omega arith,
-      o.auto.out ∙ c.loop-j.invariant.1,
-      assigned_turn a.job.links a.job.wavelengths a.job.circuits a.circuits.now c.loop-j.j a.out.now c.loop-j.out _ c.loop-j.invariant.2 o.ensures,
-    )
+    let a = c.args in
+    assigned_turn a.job.links a.job.wavelengths a.job.circuits a.circuits.now c.loop-j.j a.out.now c.loop-j.out _ c.loop-j.invariant o.ensures
 
 pub returns : goal.returns
 returns c =
     let a = c.args in
     let e : c.loop-j.j ≡ a.job.circuits = omega arith in
-    (rw e at c.loop-j.invariant.2) ∙ assigned_all a.job.links a.job.wavelengths a.job.circuits a.circuits.now a.out.now
+    (rw e at c.loop-j.invariant) ∙ assigned_all a.job.links a.job.wavelengths a.job.circuits a.circuits.now a.out.now

@@ -7,8 +7,3 @@ pub returns-then-not-may_go : goal.returns-then-not-may_go
 unfolding better
 returns-then-not-may_go c =
     (rw (sym c.may_go.ensures ∙ c.if-not-may_go.true) refl, c.requires.one_of)
-
-pub returns : goal.returns
-returns c =
-    let lower = c.lower in
-    (rw (sym c.may_go.ensures ∙ c.if-not-may_go.false) lower.ensures.0, lower.ensures.1)

@@ -1,5 +1,4 @@
 -- `lowest_fit`: the best of the circuits before j. Assumes nothing.
-use borrow.Author.Rules.{rules}
 use mathlib.Core.Path.{◌≡◌, refl, ap, ◌∙◌}
 use native.Mathlib.Omega.{arith}
 use lib.ListN.{length}
@@ -13,19 +12,13 @@ use Rattle.whole_sheet.proofs.choice.lowest_fit.Goals as goal
 
 pub loop-j-init : goal.loop-j-init
 unfolding lowest
-loop-j-init c = (search rules, refl, refl, tt)
-
-pub better_of-best-requires : goal.better_of-best-requires
-better_of-best-requires c = record {
-  board = (c.requires.0, c.requires.1, omega arith);
-  one_of = c.loop-j.invariant.3;
-}
+loop-j-init c = (refl, tt)
 
 pub loop-j-preserved : goal.loop-j-preserved
 loop-j-preserved c =
     let better-of = c.better_of-best in
     let l = c.loop-j in
-    (search rules, l.invariant.1, lowest_turn _ _ l.j _ _ l.invariant.2 better-of.ensures.0, better-of.ensures.1)
+    (lowest_turn _ _ l.j _ _ l.invariant.0 better-of.ensures.0, better-of.ensures.1)
 
 pub returns : goal.returns
 unfolding chosen may_go number_of
@@ -33,4 +26,4 @@ returns c =
     let l = c.loop-j in
     let a = c.args in
     let e : l.j ≡ length (circuits_in a.size.circuits a.circuits.now) = omega (arith, length_circuits_in a.size.circuits a.circuits.now) in
-    (l.invariant.2 ∙ ap (lowest _ _) e, l.invariant.3)
+    (l.invariant.0 ∙ ap (lowest _ _) e, l.invariant.1)

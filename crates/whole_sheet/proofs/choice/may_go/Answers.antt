@@ -1,4 +1,5 @@
 -- `may_go`: the row is read, and then the circuit. Assumes nothing.
+use Prim.Native.Nat.{ℕ}
 use mathlib.Core.Path.{refl, ap, ◌∙◌, sym}
 use native.Mathlib.Omega.{arith}
 use borrow.Author.Tests.{eq-eqb, ne_eqb}
@@ -10,32 +11,30 @@ use Rattle.method.proofs.Circuits.{circuit_in_lem, lies_at}
 use Rattle.records.specs.declared.Circuit.{Circuit}
 use Rattle.whole_sheet.proofs.choice.may_go.Goals as goal
 
-pub returns-then-get-ne0 : goal.returns-then-get-ne0
+pub does_fit-requires-clause-lies : goal.does_fit-requires-clause-lies
+does_fit-requires-clause-lies c =
+    let a = c.args in
+    let b = c.requires.0 in
+    let wide = b.wide in
+    let y = lies_at a.size.links a.size.circuits a.circuits.now a.j b.file.lies c.requires.2 in
+    let f = ap (λ (o : Circuit). o.first) c.record_at.ensures in
+    let l = ap (λ (o : Circuit). o.last) c.record_at.ensures in
+    (omega arith, omega arith)
+
+pub returns-then-get-eq0 : goal.returns-then-get-eq0
 unfolding may_go
-returns-then-get-ne0 c =
+returns-then-get-eq0 c =
     let a = c.args in
     let b = c.requires.0 in
     let z = row_read a.size.links a.size.circuits a.j _ a.work.now b.room c.requires.2 c.get.ensures in
-    rw (ne_eqb _ 0 (λ e. c.if-get-ne0.true (sym z ∙ e))) refl
+    and_then _ _ _ (eq-eqb _ 0 (z ∙ c.if-get-eq0.true))
+    (c.does_fit.ensures ∙ ap (λ (n : ℕ). fits n a.row.now c.record_at.result) b.wide
+    ∙ ap (fits a.size.links a.row.now) (c.record_at.ensures ∙ sym (circuit_in_lem a.size.circuits a.circuits.now a.j c.requires.2)))
 
-pub does_fit-requires : goal.does_fit-requires
-does_fit-requires c =
-    let circuit-at = c.circuit_at in
-    let a = c.args in
-    let b = c.requires.0 in
-    let y = lies_at a.size.links a.size.circuits a.circuits.now a.j b.file.lies c.requires.2 in
-    let f = ap (λ (o : Circuit). o.first) circuit-at.ensures in
-    let l = ap (λ (o : Circuit). o.last) circuit-at.ensures in record {
-      row_len = (b.wide, b.file.line, c.requires.1);
-      le_first = (omega arith, omega arith);
-    }
-
-pub returns : goal.returns
+pub returns-else-get-eq0 : goal.returns-else-get-eq0
 unfolding may_go
-returns c =
-    let get = c.get in
+returns-else-get-eq0 c =
     let a = c.args in
     let b = c.requires.0 in
-    let z = row_read a.size.links a.size.circuits a.j _ a.work.now b.room c.requires.2 get.ensures in
-    and_then _ _ _ (eq-eqb _ 0 (z ∙ c.if-get-ne0.false))
-    (c.does_fit.ensures ∙ ap (fits a.size.links a.row.now) (c.circuit_at.ensures ∙ sym (circuit_in_lem a.size.circuits a.circuits.now a.j c.requires.2)))
+    let z = row_read a.size.links a.size.circuits a.j _ a.work.now b.room c.requires.2 c.get.ensures in
+    ne_eqb _ 0 c.if-get-eq0.false ∙ rw (ne_eqb _ 0 (λ e. c.if-get-eq0.false (sym z ∙ e))) refl

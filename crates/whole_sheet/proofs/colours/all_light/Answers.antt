@@ -1,13 +1,10 @@
 -- `all_light`: the links before i are in the run or blue. Assumes nothing.
 use borrow.Author.Rules.{rules}
-use mathlib.Core.Path.{refl, ◌∙◌, sym}
+use mathlib.Core.Path.{◌∙◌, sym}
 use native.Mathlib.Omega.{arith}
 use Rattle.whole_sheet.proofs.Everys.{every_onward, every_stop, every_over}
 use Rattle.whole_sheet.specs.inner.Board.{light}
 use Rattle.whole_sheet.proofs.colours.all_light.Goals as goal
-
-pub loop-i-init : goal.loop-i-init
-loop-i-init c = (search rules, refl)
 
 pub returns-then-not-is_light : goal.returns-then-not-is_light
 returns-then-not-is_light c =

@@ -8,6 +8,3 @@ use Rattle.whole_sheet.proofs.colours.all_light.Given as goal
 abbrev pub invariant-loop-i : goal.invariant-loop-i
 invariant-loop-i l =
     (l.first ≤ l.i) × (every (light l.run l.row) l.i (suc l.last - l.i) ≡ every (light l.run l.row) l.first (suc l.last - l.first))
-
-abbrev pub decreases-loop-i : goal.decreases-loop-i
-decreases-loop-i l = suc l.last - l.i

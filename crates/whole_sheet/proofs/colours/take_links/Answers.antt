@@ -6,11 +6,8 @@ use native.Mathlib.Omega.{arith}
 use Rattle.whole_sheet.proofs.Stepping.{take_done}
 use Rattle.method.specs.Line.{uses}
 use Rattle.method.specs.Sheet.{taken}
-use Rattle.rows.proofs.Written.{at_get, written_start, written_turn}
+use Rattle.rows.proofs.Written.{at_get, written_turn}
 use Rattle.whole_sheet.proofs.colours.take_links.Goals as goal
-
-pub loop-i-init : goal.loop-i-init
-loop-i-init c = (search rules, written_start _ _ _)
 
 pub loop-i-preserved : goal.loop-i-preserved
 loop-i-preserved c =
@@ -21,9 +18,6 @@ loop-i-preserved c =
           (c.taken_or.ensures ∙ ap (cond (uses c.args.c l.i) taken) (at_get l.row l.i (omega arith) ∙ l.invariant.1.late l.i (omega arith)))
           (omega arith) (omega arith),
     )
-
-pub shape_of-row : goal.shape_of-row
-shape_of-row c = c.loop-i.invariant.1.long
 
 pub returns : goal.returns
 returns c = let l = c.loop-i in take_done _ _ _ l.i _ _ _ (omega arith) (omega arith) (omega arith) l.invariant.1

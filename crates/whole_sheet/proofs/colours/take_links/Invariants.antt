@@ -1,5 +1,5 @@
 -- `take_links`: the circuit's links of the run before i are taken. Assumes nothing.
-use Prim.Native.Nat.{◌-◌, ◌≤◌, max}
+use Prim.Native.Nat.{◌≤◌, max}
 use mathlib.Core.Bool.{cond}
 use Rattle.method.specs.Line.{uses}
 use Rattle.method.specs.Sheet.{taken, at}
@@ -8,6 +8,3 @@ use Rattle.whole_sheet.proofs.colours.take_links.Given as goal
 
 abbrev pub invariant-loop-i : goal.invariant-loop-i
 invariant-loop-i l = (l.i ≤ max l.initial.i l.i-end) × Written (λ x. cond (uses l.c x) taken (at l.initial.row x)) l.initial.i l.i l.initial.row l.row
-
-abbrev pub decreases-loop-i : goal.decreases-loop-i
-decreases-loop-i l = l.i-end - l.i

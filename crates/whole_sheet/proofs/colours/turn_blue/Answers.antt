@@ -2,26 +2,14 @@
 use borrow.Author.Rules.{rules}
 use mathlib.Core.Path.{refl}
 use native.Mathlib.Omega.{arith}
-use Rattle.rows.proofs.Written.{written_start, written_turn}
+use Rattle.rows.proofs.Written.{written_turn}
 use Rattle.rows.proofs.ColourLaws.{paint_done}
 use Rattle.whole_sheet.proofs.colours.turn_blue.Goals as goal
-
-pub loop-i-init : goal.loop-i-init
-loop-i-init c = (search rules, written_start _ _ _)
-
-pub overflow_sub-row : goal.overflow_sub-row
-overflow_sub-row c = let s = c.loop-i.invariant.1.since in omega arith
-
-pub bounds-row-i : goal.bounds-row-i
-bounds-row-i c = let l = c.loop-i.invariant.1.long in let s = c.loop-i.invariant.1.since in search rules
 
 pub loop-i-preserved : goal.loop-i-preserved
 loop-i-preserved c =
     let l = c.loop-i in
     (search rules, written_turn _ _ l.i _ _ _ _ l.invariant.1 refl refl (omega arith) (omega arith))
-
-pub shape_of-row : goal.shape_of-row
-shape_of-row c = c.loop-i.invariant.1.long
 
 pub returns : goal.returns
 returns c = let l = c.loop-i in paint_done _ _ _ _ l.i _ _ (omega arith) (omega arith) (omega arith) l.invariant.1

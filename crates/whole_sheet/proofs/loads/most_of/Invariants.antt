@@ -1,5 +1,5 @@
 -- `most_of`: the largest c(i) of the links before i. Assumes nothing.
-use Prim.Native.Nat.{◌-◌, ◌≤◌}
+use Prim.Native.Nat.{◌-◌}
 use mathlib.Core.Path.{◌≡◌}
 use Rattle.basics.specs.Tools.{top}
 use Rattle.records.specs.Records.{circuits_in}
@@ -7,7 +7,4 @@ use Rattle.method.specs.Sheet.{need}
 use Rattle.whole_sheet.proofs.loads.most_of.Given as goal
 
 abbrev pub invariant-loop-i : goal.invariant-loop-i
-invariant-loop-i l = (1 ≤ l.i) × (l.i ≤ l.e) × (l.most ≡ top (need l.w (circuits_in l.m l.circuits)) (l.i - 1))
-
-abbrev pub decreases-loop-i : goal.decreases-loop-i
-decreases-loop-i l = l.e - l.i
+invariant-loop-i l = l.most ≡ top (need l.size.wavelengths (circuits_in l.size.circuits l.circuits)) (l.i - 1)

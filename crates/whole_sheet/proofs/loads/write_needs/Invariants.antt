@@ -1,5 +1,4 @@
 -- `write_needs`: links before i have their c(i). Assumes nothing.
-use Prim.Native.Nat.{◌-◌, ◌≤◌}
 use mathlib.Core.Path.{◌≡◌}
 use lib.ListN.{length}
 use Rattle.records.specs.Bytes.{cells_of}
@@ -10,7 +9,4 @@ use Rattle.whole_sheet.proofs.loads.write_needs.Given as goal
 
 abbrev pub invariant-loop-i : goal.invariant-loop-i
 invariant-loop-i l =
-    (1 ≤ l.i) × (l.i ≤ l.e) × Written (need l.w (circuits_in l.m l.circuits)) 1 l.i (cells_of l.initial.cells) (cells_of l.cells) × (length l.cells ≡ length l.initial.cells)
-
-abbrev pub decreases-loop-i : goal.decreases-loop-i
-decreases-loop-i l = l.e - l.i
+    Written (need l.size.wavelengths (circuits_in l.size.circuits l.circuits)) 1 l.i (cells_of l.initial.cells) (cells_of l.cells) × (length l.cells ≡ length l.initial.cells)

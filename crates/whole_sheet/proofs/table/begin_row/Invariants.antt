@@ -1,5 +1,5 @@
 -- `begin_row`: the links before i have the colours with which the row begins. Assumes nothing.
-use Prim.Native.Nat.{◌+◌, ◌-◌, ◌*◌, ◌≤◌}
+use Prim.Native.Nat.{◌+◌, ◌-◌, ◌*◌}
 use Rattle.whole_sheet.specs.inner.Tables.{start_at}
 use Rattle.records.specs.Bytes.{cells_of}
 use Rattle.rows.specs.inner.Loops.{Written}
@@ -7,7 +7,4 @@ use Rattle.whole_sheet.proofs.table.begin_row.Given as goal
 
 abbrev pub invariant-loop-i : goal.invariant-loop-i
 invariant-loop-i l =
-    (1 ≤ l.i) × (l.i ≤ l.e) × Written (start_at l.n l.w l.top l.k (cells_of l.work) l.initial.sheet) (l.n * (l.k - 1) + 1) (l.n * (l.k - 1) + l.i) l.initial.sheet l.sheet
-
-abbrev pub decreases-loop-i : goal.decreases-loop-i
-decreases-loop-i l = l.e - l.i
+    Written (start_at l.size.links l.size.wavelengths l.top l.k (cells_of l.work) l.initial.sheet) (l.size.links * (l.k - 1) + 1) (l.size.links * (l.k - 1) + l.i) l.initial.sheet l.sheet

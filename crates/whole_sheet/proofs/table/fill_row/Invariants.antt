@@ -4,14 +4,14 @@ use Rattle.whole_sheet.specs.inner.Board.{state_in, Board}
 use Rattle.records.specs.Area.{needs_in}
 use Rattle.records.specs.Bytes.{cells_of}
 use Rattle.records.specs.Records.{circuits_in}
-use Rattle.method.specs.Sheet.{run_from, steps}
+use Rattle.method.specs.Sheet.{steps}
 use Rattle.method.proofs.Closed.{opens}
 use Rattle.rows.proofs.RowLoop.{InLoop}
 use Rattle.whole_sheet.proofs.table.fill_row.Given as goal
 
 abbrev pub invariant-loop-l : goal.invariant-loop-l
 invariant-loop-l l =
-    Board l.size.links l.size.circuits l.circuits l.work l.row × (l.l ≡ run_from l.size.links l.row)
+    Board l.size.links l.size.circuits l.circuits l.work l.row
     × InLoop l.size.links (circuits_in l.size.circuits l.circuits) l.k
     (steps l.size.links (circuits_in l.size.circuits l.circuits) l.size.links l.k (state_in l.size.links l.size.circuits l.initial.work l.initial.row))
     (state_in l.size.links l.size.circuits l.work l.row)

@@ -1,8 +1,7 @@
 -- `one_row`: the row begins and is filled, and stands behind the rows before it. Assumes nothing.
-use Prim.Native.Nat.{◌-◌}
 use native.Mathlib.Omega.{arith}
-use native.Mathlib.Nat.{mul-le-mul, mul-le-mul_left}
-use Rattle.whole_sheet.proofs.Drawing.{needs_low, row_room, row_board, drawn_more, kept_more, sources_more}
+use native.Mathlib.Nat.{mul-le-mul_left}
+use Rattle.whole_sheet.proofs.Drawing.{needs_low, drawn_more, kept_more, sources_more}
 use Rattle.whole_sheet.proofs.RowStarts.{times_turn}
 use Rattle.rows.proofs.FillLaws.{top_low}
 use Rattle.whole_sheet.proofs.table.one_row.Goals as goal
@@ -15,7 +14,7 @@ begin_row-requires c =
     let p = c.requires.sources.1 in
     let q = c.requires.sources.2 in
     let f = y.accepted.file in
-    let l = top_low n a.w a.size.circuits a.top a.circuits.now y.accepted y.top_is in
+    let l = top_low n a.size.wavelengths a.size.circuits a.top a.circuits.now y.accepted y.top_is in
     let t = times_turn n a.k p in
     let g = y.cells_room in (
       p,
@@ -23,57 +22,16 @@ begin_row-requires c =
       f.line,
       l,
       omega arith,
-      needs_low n a.w a.size.circuits a.top a.circuits.now a.work.now a.sheet.now y,
+      needs_low n a.size.wavelengths a.size.circuits a.top a.circuits.now a.work.now a.sheet.now y,
       omega (arith, mul-le-mul_left n q),
     )
-
-pub overflow_mul-a : goal.overflow_mul-a
-overflow_mul-a c =
-    let a = c.args in
-    let y = c.requires.sources.0 in
-    let l = top_low a.size.links a.w a.size.circuits a.top a.circuits.now y.accepted y.top_is in
-    omega (arith, mul-le-mul {n₁ = a.size.links} {m₁ = a.k - 1} {n₂ = 512} {m₂ = 2127} y.accepted.file.line (omega arith))
-
-pub overflow_mul-e : goal.overflow_mul-e
-overflow_mul-e c =
-    let a = c.args in
-    let y = c.requires.sources.0 in
-    let l = top_low a.size.links a.w a.size.circuits a.top a.circuits.now y.accepted y.top_is in
-    omega (arith, mul-le-mul {n₁ = a.size.links} {m₁ = a.k} {n₂ = 512} {m₂ = 2127} y.accepted.file.line (omega arith))
 
 pub overflow_cast-k : goal.overflow_cast-k
 overflow_cast-k c =
     let a = c.args in
     let y = c.requires.sources.0 in
-    let l = top_low a.size.links a.w a.size.circuits a.top a.circuits.now y.accepted y.top_is in
+    let l = top_low a.size.links a.size.wavelengths a.size.circuits a.top a.circuits.now y.accepted y.top_is in
     omega arith
-
-pub slice_bounds-fill_row-count : goal.slice_bounds-fill_row-count
-slice_bounds-fill_row-count c =
-    let t = times_turn c.args.size.links c.args.k c.requires.sources.1 in
-    omega arith
-
-pub slice_bounds-fill_row-start : goal.slice_bounds-fill_row-start
-slice_bounds-fill_row-start c =
-    let begin-row = c.begin_row in
-    let a = c.args in
-    let t = times_turn a.size.links a.k c.requires.sources.1 in
-    let r = row_room a.size.links a.w a.size.circuits a.top a.k a.circuits.now a.work.now a.sheet.now _ c.requires.sources.0 c.requires.sources.1 c.requires.sources.2 c.requires.table_after begin-row.ensures in
-    omega arith
-
-pub slice_bounds-fill_row-end : goal.slice_bounds-fill_row-end
-slice_bounds-fill_row-end c =
-    let begin-row = c.begin_row in
-    let a = c.args in
-    let r = row_room a.size.links a.w a.size.circuits a.top a.k a.circuits.now a.work.now a.sheet.now _ c.requires.sources.0 c.requires.sources.1 c.requires.sources.2 c.requires.table_after begin-row.ensures in
-    omega arith
-
-pub fill_row-requires : goal.fill_row-requires
-fill_row-requires c =
-    let begin-row = c.begin_row in
-    let a = c.args in
-    row_board a.size.links a.w a.size.circuits a.top a.k a.circuits.now a.work.now a.sheet.now _ c.requires.sources.0
-    c.requires.sources.1 c.requires.sources.2 c.requires.table_after begin-row.ensures
 
 pub returns : goal.returns
 returns c =
@@ -88,7 +46,7 @@ returns c =
     let t = c.requires.table_after in
     let b = begin-row.ensures in
     let f = fill-row.ensures in (
-      sources_more n a.w m a.top a.k a.circuits.now a.work.now a.sheet.now _ y p q t b _ _ f,
-      drawn_more n a.w m a.top a.k a.circuits.now a.work.now a.sheet.now _ y p q t b _ _ f,
-      kept_more n a.w m a.top a.k a.circuits.now a.work.now a.sheet.now _ y p q t b _ _ f,
+      sources_more n a.size.wavelengths m a.top a.k a.circuits.now a.work.now a.sheet.now _ y p q t b _ _ f,
+      drawn_more n a.size.wavelengths m a.top a.k a.circuits.now a.work.now a.sheet.now _ y p q t b _ _ f,
+      kept_more n a.size.wavelengths m a.top a.k a.circuits.now a.work.now a.sheet.now _ y p q t b _ _ f,
     )

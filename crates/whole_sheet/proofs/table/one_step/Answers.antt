@@ -1,11 +1,11 @@
 -- `one_step`: a step of the method, whether somebody fits or nobody. Assumes nothing.
 use Prim.Native.Nat.{ℕ, ◌≤◌}
-use mathlib.Core.Path.{◌≡◌, refl, ap, ◌∙◌, sym, subst}
+use mathlib.Core.Path.{◌≡◌, refl, ap, ◌∙◌, sym}
 use mathlib.Core.List.{List}
 use native.Mathlib.Omega.{arith}
 use Rattle.whole_sheet.proofs.Stepping.{blue_step, place_step}
 use Rattle.whole_sheet.specs.inner.Board.{AtRun}
-use Rattle.whole_sheet.specs.inner.Choices.{place_of, OneOf}
+use Rattle.whole_sheet.specs.inner.Choices.{place_of}
 use Rattle.method.specs.Sheet.{run_from, run_past}
 use Rattle.method.proofs.Colours.{from_pos, past_le}
 use Rattle.whole_sheet.proofs.table.one_step.Goals as goal
@@ -14,26 +14,6 @@ use Rattle.whole_sheet.proofs.table.one_step.Goals as goal
 found-run : (n l past : ℕ) (row : List ℕ) → l ≡ run_from n row → past ≡ run_past n row → l ≤ n → AtRun n row (record { from = l; past = past })
 found-run n l past row a b h = record { starts = a; ends = b; there = h }
 
-pub first_closed-past-requires : goal.first_closed-past-requires
-first_closed-past-requires c =
-    let b = c.requires.0 in
-    (b.wide, b.file.line, c.requires.1, c.requires.2)
-
-pub lowest_fit-found-requires : goal.lowest_fit-found-requires
-lowest_fit-found-requires c =
-    let a = c.args in
-    (c.requires.0, found-run a.size.links a.l _ a.row.now c.requires.1 c.first_closed-past.ensures c.requires.2)
-
-pub place-requires : goal.place-requires
-place-requires c =
-    let first-closed = c.first_closed-past in
-    let lowest-fit = c.lowest_fit-found in
-    let a = c.args in (
-      c.requires.0,
-      found-run a.size.links a.l _ a.row.now c.requires.1 first-closed.ensures c.requires.2,
-      subst (OneOf a.size.circuits) c.in-Lowest.is lowest-fit.ensures.1,
-    )
-
 pub turn_blue-requires : goal.turn_blue-requires
 turn_blue-requires c =
     let first-closed = c.first_closed-past in
@@ -41,36 +21,42 @@ turn_blue-requires c =
     let b = c.requires.0 in
     let p = from_pos a.size.links a.row.now in
     let q = past_le a.size.links a.row.now (omega arith) in
-    (b.wide, b.file.line, omega arith, omega arith)
+    let past = rw b.wide at first-closed.ensures in
+    let wide = b.wide in
+    let line = b.file.line in
+    (omega arith, omega arith, omega arith)
 
-pub returns-in-Lowest : goal.returns-in-Lowest
-returns-in-Lowest c =
+pub returns-in-Some : goal.returns-in-Some
+returns-in-Some c =
     let place = c.place in
     let first-closed = c.first_closed-past in
-    let lowest-fit = c.lowest_fit-found in
+    let lowest-fit = c.lowest_fit in
     let a = c.args in
     let s = place.ensures in
+    let past = rw c.requires.0.wide at first-closed.ensures in
     record {
       room = s.room;
       wide = s.wide;
       needs = s.needs;
       shows = place_step a.size.links a.size.circuits a.k a.circuits.now a.work.now a.row.now _
-          (found-run a.size.links a.l _ a.row.now c.requires.1 first-closed.ensures c.requires.2) _ _
-          (sym lowest-fit.ensures.0 ∙ ap place_of c.in-Lowest.is) s.shows;
+          (found-run a.size.links a.l _ a.row.now c.requires.1 past c.requires.2) _ _
+          (sym lowest-fit.ensures.0 ∙ ap place_of c.in-Some.is) s.shows;
     }
 
-pub returns-in-Nobody : goal.returns-in-Nobody
-returns-in-Nobody c =
+pub returns-in-None : goal.returns-in-None
+returns-in-None c =
     let turn-blue = c.turn_blue in
     let first-closed = c.first_closed-past in
-    let lowest-fit = c.lowest_fit-found in
+    let lowest-fit = c.lowest_fit in
     let a = c.args in
     let b = c.requires.0 in
+    let past = rw b.wide at first-closed.ensures in
+    let blues = rw b.wide at turn-blue.ensures in
     record {
       room = b.room;
       wide = turn-blue.auto.row ∙ b.wide;
       needs = refl;
       shows = blue_step a.size.links a.size.circuits a.k a.circuits.now a.work.now a.row.now _
-          (found-run a.size.links a.l _ a.row.now c.requires.1 first-closed.ensures c.requires.2) _
-          (sym lowest-fit.ensures.0 ∙ ap place_of c.in-Nobody.is) turn-blue.ensures;
+          (found-run a.size.links a.l _ a.row.now c.requires.1 past c.requires.2) _
+          (sym lowest-fit.ensures.0 ∙ ap place_of c.in-None.is) blues;
     }

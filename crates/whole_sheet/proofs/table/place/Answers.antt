@@ -12,13 +12,16 @@ take_links-requires c =
     let r = c.requires.1 in
     let p = from_pos a.size.links a.row.now in
     let q = past_le a.size.links a.row.now (omega (arith, r.there)) in
-    (b.wide, b.file.line, omega arith, omega arith)
+    let wide = b.wide in
+    let line = b.file.line in
+    (omega arith, omega arith, omega arith)
 
 pub returns : goal.returns
 returns c =
     let put = c.put in
-    let circuit-at = c.circuit_at-c in
+    let circuit-at = c.record_at-c in
     let a = c.args in
     let b = c.requires.0 in
+    let links = rw b.wide at c.take_links.ensures in
     placed a.size.links a.size.circuits a.k a.circuits.now a.work.now a.row.now a.run c.requires.1 a.j _ _ _ c.requires.2
-    (put.auto.work ∙ b.room) circuit-at.ensures put.ensures c.take_links.ensures
+    (put.auto.work ∙ b.room) circuit-at.ensures put.ensures links

@@ -1,2 +1,0 @@
--- What the contracts of the files cite.
-pub mod Moves

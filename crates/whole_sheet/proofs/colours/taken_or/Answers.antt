@@ -1,9 +1,0 @@
--- `taken_or` meets its contract. Assumes nothing.
-use mathlib.Core.Path.{refl, ◌∙◌, sym}
-use Rattle.whole_sheet.proofs.colours.taken_or.Goals as goal
-
-pub returns-then-is_used : goal.returns-then-is_used
-returns-then-is_used c = rw (sym c.is_used.ensures ∙ c.if-is_used.true) refl
-
-pub returns : goal.returns
-returns c = rw (sym c.is_used.ensures ∙ c.if-is_used.false) refl
