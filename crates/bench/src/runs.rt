@@ -1,5 +1,4 @@
 // Runs of the planner over lent areas that are filled with sevens first.
-// The lent areas go one by one: a struct that holds them by reference makes clauses say `.entry.` of each field.
 ghost use Rattle.std.specs.Prelude.{◌≡◌, ◌*◌, ◌≤◌, min, max, length};
 
 use crate::inputs;

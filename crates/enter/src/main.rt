@@ -1,6 +1,5 @@
 // Turns a text of circuits on standard input into the records of a line, in the folder where it runs. It reads, calls and writes; what the files hold and what is
 // said of the text is `MadeRead` of crate `prints`.
-// The lent areas go one by one: a struct that holds them by reference makes clauses say `.entry.` of each field.
 #![tactic(auto)]
 
 use std::io::{Input, Print};

@@ -1,5 +1,6 @@
 // The planner, additions, mending and the check for callers in C and Rust: the answer as a plain struct of numbers.
 // The C interface has no `Option`, `Result` or struct of references: what is lent goes one by one, and a number that has no meaning is 0.
+// Each answer is one flat struct, so the three numbers of a refusal stand in each.
 #![tactic(auto)]
 
 pub mod add;

@@ -13,7 +13,7 @@ pub mod pair;
 // A proved loop has to end, and nothing says that a file does: no run uses up this number of calls.
 const TURNS: u64 = u64::MAX;
 
-// Reads until the buffer is full or the input ends. What is told: how many bytes.
+// Reads until the buffer is full or the input ends. What is told: how many bytes. `write_all` gives where this takes: a closure for both would be no plainer.
 fn read_all<R: Read>(from: &mut R, buf: &mut [u8]) -> std::io::Result<usize>
     ensures { ReadsAtMost result buf.new }
 {

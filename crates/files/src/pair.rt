@@ -94,7 +94,7 @@ impl Together<'_> {
             .position(|draft| draft.take_name(rt).is_err())
     }
 
-    // With no last file, and the old one moved away or not: the new files take their names, the last one at the end. Where the first cannot, the old last file comes back if it
+    // With no last file, and the old one moved away or not, which a type of its own would say no plainer: the new files take their names, the last one at the end. Where the first cannot, the old last file comes back if it
     // was moved away, and the drafts go; where a later one cannot, its draft and those after it stay, since the names of those before it are taken.
     fn name_all<R: Files>(&self, rt: &R, moved: bool) -> Result<(), ReplaceError> {
         names_to_disk(rt);
@@ -137,7 +137,7 @@ impl Together<'_> {
     }
 }
 
-// `circuits.rec` of these bytes.
+// `circuits.rec` of these bytes. Names are written out: without heap none can be put together.
 fn circuits_draft(bytes: &[u8]) -> Draft<'_> {
     Draft {
         name: "circuits.rec",

@@ -1,6 +1,5 @@
 // Plans the records of a line in the folder where it runs, keeps both lists of the plan there, and prints the sheet. It reads, calls and writes; which lists are kept
 // is `kept` of crate `prints`, and what is printed is `printed`.
-// The lent areas go one by one: a struct that holds them by reference makes clauses say `.entry.` of each field.
 #![tactic(auto)]
 
 use std::io::Print;

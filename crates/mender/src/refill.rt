@@ -1,5 +1,5 @@
 // Both passes: who is not kept gets, by rising number, the lowest place on the old fibres, or 0 and 0, and a line of the report that begins.
-// The lent areas go one by one: a struct that holds them by reference makes clauses say `.entry.` of each field.
+// The areas that are written go one by one: a struct that holds them by reference makes clauses say `.entry.` of each field.
 ghost use Rattle.std.specs.Prelude.{ℕ, ◌*◌, ◌≤◌, length};
 ghost use Rattle.mender.specs.inner.Steps.{Refilled, Register};
 

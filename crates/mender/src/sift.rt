@@ -1,7 +1,7 @@
 // The first pass: who is kept, and for the others their turns in the second pass and the lines of the report that begin.
-// kept: a flag for each circuit. ends, chains: those kept, by fibre, as placing has them.
+// kept: a flag for each circuit, a number, since the definition of who is kept looks for 0. ends, chains: those kept, by fibre, as placing has them.
 // Records stand in lent bytes, so loops go over their places.
-// The lent areas go one by one: a struct that holds them by reference makes clauses say `.entry.` of each field.
+// The areas that are written go one by one: a struct that holds them by reference makes clauses say `.entry.` of each field.
 ghost use Rattle.std.specs.Prelude.{◌≡◌, cond, ◌++◌, map, ℕ, ◌+◌, ◌*◌, ◌≤◌, ◌<◌, eqb, drop, get_or, length, replicate, set, take};
 ghost use Rattle.records.specs.Bytes.{cells_of, set_cell};
 ghost use Rattle.records.specs.Records.{circuits_in};

@@ -86,7 +86,7 @@ fn note_left(assigns: &[u8], base: usize, m: usize, places: &mut [u8]) -> usize
     let mut k = 0;
     for j in 0..m {
         let a = records::record_at::<AssignmentRecord>(assigns, base + j);
-        // Fibre 0 is none.
+        // A record of 8 bytes has no room for an `Option`: fibre 0, which no plan has, is none.
         if a.fibre == 0 {
             records::cells::put(places, k, j as u16);
             k += 1;

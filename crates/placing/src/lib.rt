@@ -36,7 +36,7 @@ pub struct Sizes {
     ghost few: { (before + circuits ≤ 2048) × (fibres ≤ 2048) × (wavelengths < 96) },
 }
 
-// The wavelengths from `low` to `high`.
+// The wavelengths from `low` to `high`. They have limits in their type, which cells have not, so they are not the bounds of scans.
 #[derive(Clone, Copy, Debug, PartialEq, Eq)]
 pub struct Waves {
     pub low: usize,
@@ -138,7 +138,8 @@ pub fn place_new(
     place_all(new, sizes, order, m, fibres, assigns, ends, &mut chains);
 }
 
-// Those of the m circuits of a file whose flag in `kept` is not 0 ride where their assignment records say, in chains that were empty.
+// Those of the m circuits of a file whose flag in `kept` is not 0 ride where their assignment records say, in chains that were empty. For `ride_all` flags that are all set would
+// be a table for nothing.
 // Flags are numbers, since the definition of who is kept looks for 0.
 pub fn ride_kept(
     circuits: &[u8],

@@ -27,7 +27,7 @@ pub fn overlapping(ends: &[u8], j: usize, c: Circuit) -> Option<(u16, u16)>
     None
 }
 
-// The wavelength of the rider at place j, if it overlaps c; it is read in any case, so that a walk has no branch.
+// The wavelength of the rider at place j, if it overlaps c; it is read in any case, so that a walk does not jump over it.
 #[tactic(auto, unfolding(crate::specs::inner::Marking::overlapping, crate::specs::inner::Marking::shown))]
 fn seen(ends: &[u8], assigns: &[u8], j: usize, c: Circuit) -> Option<usize>
     requires { (j < 2048) × (4 * j + 4 ≤ length ends.now) × (8 * j + 8 ≤ length assigns.now) }

@@ -30,7 +30,7 @@ pub struct Corners {
     pub froms: [u16; 2048],
 }
 
-// The first and last links of all fibres, those of fibre q at entry q - 1.
+// The first and last links of all fibres, those of fibre q at entry q - 1. Two tables, so that the machine tests many fibres at once.
 #[derive(Drop)]
 pub struct Spans {
     pub firsts: [u16; 2048],

@@ -29,6 +29,7 @@ fn seat(
     requires { (j < 2048) × (8 * j + 8 ≤ length assigns.old) × (4 * j + 4 ≤ length ends.old) × ((x : Spot) → s ≡ Some x → (1 ≤ x.fibre) × (x.fibre ≤ 2048)) }
     ensures { Seated c (told s).fibre (told s).wavelength j assigns.old ends.old chains.old.heads chains.old.next assigns.new ends.new chains.new.heads chains.new.next }
 {
+    // A record of 8 bytes has no room for an `Option`: fibre 0, which no plan has, is none.
     let none = Spot {
         fibre: 0,
         wavelength: 0,

@@ -9,7 +9,7 @@ ghost use Rattle.prints.specs.inner.Lent.{Appendable, Appended, Growable, Laid, 
 use adder::Named;
 use records::Line;
 
-// How many bytes circuits.rec, fibres.rec and assign.rec have.
+// How many bytes circuits.rec, fibres.rec and assign.rec have. A plan that is kept has two files, and clauses name them: one type for both would be no plainer.
 #[derive(Clone, Copy, Debug, PartialEq, Eq)]
 pub struct Lengths {
     pub circuits: usize,
@@ -24,7 +24,8 @@ pub struct Grown {
     pub text: usize,
 }
 
-// How many records lists of f and a bytes have; where one is not whole records, more fibres than an addition takes.
+// How many records lists of f and a bytes have; where one is not whole records, more fibres than an addition takes, and the tests refuse them with the number that is
+// wanted: an `Option` would be no plainer.
 #[tactic(auto, unfolding(crate::specs::inner::Lent::records_read))]
 fn records_read(f: usize, a: usize) -> Named
     ensures { result ≡ records_read f a }

@@ -35,6 +35,7 @@ pub fn where_riders(links: usize, link: usize, index: &[u32]) -> Stretch
             };
         }
     }
+    // No riders are an empty stretch, as in the definition, so that a slice of it is empty.
     Stretch {
         start: 0,
         length: 0,

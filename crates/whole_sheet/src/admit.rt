@@ -3,10 +3,10 @@ ghost use Rattle.std.specs.Prelude.{◌≡◌, ◌/◌, length};
 ghost use Rattle.refusals.specs.Table.{tested, verdict};
 ghost use Rattle.whole_sheet.specs.WholeOutcome.{row21, whole_table};
 
-use crate::choice::Size;
 use crate::loads;
 use records::Line;
 use refusals::{Reason, Refusal};
+use register::Job;
 
 // 21: the sheet has at most 65,536 cells, and the lent sheet a byte for each.
 fn sheet_room(cells: usize, has: usize) -> Result<usize, Refusal>
@@ -31,12 +31,7 @@ pub fn of_whole(
     ensures { result ≡ verdict (whole_table line circuits.now fibres assigns work sheet) (length circuits.now / 8) }
 {
     let m = planner::admit::of_plan(line, circuits, fibres, assigns, work)?;
-    let size = Size {
-        links: line.links,
-        wavelengths: line.wavelengths,
-        circuits: m,
-    };
-    let top = loads::most_of(size, circuits);
+    let top = loads::most_of(Job::on(line, m, 0), circuits);
     sheet_room(line.links * (top * line.wavelengths), sheet)?;
     Ok(m)
 }

@@ -11,21 +11,14 @@ ghost use Rattle.whole_sheet.specs.inner.Choices.{place_of, OneOf, may_go, numbe
 use crate::colours;
 use crate::colours::Run;
 use records::Circuit;
+use register::Job;
 
-// How many links, wavelengths and circuits there are; they travel together.
-#[derive(Clone, Copy, Debug, PartialEq, Eq)]
-pub struct Size {
-    pub links: usize,
-    pub wavelengths: usize,
-    pub circuits: usize,
-}
-
-// Whether circuit j waits and fits.
-fn may_go(size: Size, run: Run, j: usize, circuits: &[u8], work: &[u8], row: &[u8]) -> bool
-    requires { Board size.links size.circuits circuits.now work.now row.now × AtRun size.links row.now run × (j < size.circuits) }
-    ensures { result ≡ may_go size.links size.circuits circuits.now work.now row.now j }
+// Whether circuit j waits and fits. One that waits has row 0 in its cell: an `Option` in each would take twice as much.
+fn may_go(job: Job, run: Run, j: usize, circuits: &[u8], work: &[u8], row: &[u8]) -> bool
+    requires { Board job.links job.circuits circuits.now work.now row.now × AtRun job.links row.now run × (j < job.circuits) }
+    ensures { result ≡ may_go job.links job.circuits circuits.now work.now row.now j }
 {
-    records::cells::get(work, 2 * size.links + j) == 0
+    records::cells::get(work, 2 * job.links + j) == 0
         && colours::does_fit(row, run, records::record_at::<Circuit>(circuits, j))
 }
 
@@ -52,30 +45,30 @@ fn lower(best: Option<usize>, j: usize, m: usize, circuits: &[u8]) -> Option<usi
 fn better_of(
     best: Option<usize>,
     j: usize,
-    size: Size,
+    job: Job,
     run: Run,
     circuits: &[u8],
     work: &[u8],
     row: &[u8],
 ) -> Option<usize>
-    requires board { Board size.links size.circuits circuits.now work.now row.now × AtRun size.links row.now run × (j < size.circuits) }
-    requires one_of { OneOf size.circuits best }
-    ensures { (place_of result ≡ better (may_go size.links size.circuits circuits.now work.now row.now j) (number_of size.circuits circuits.now) j (place_of best)) × OneOf size.circuits result }
+    requires board { Board job.links job.circuits circuits.now work.now row.now × AtRun job.links row.now run × (j < job.circuits) }
+    requires one_of { OneOf job.circuits best }
+    ensures { (place_of result ≡ better (may_go job.links job.circuits circuits.now work.now row.now j) (number_of job.circuits circuits.now) j (place_of best)) × OneOf job.circuits result }
 {
-    if !may_go(size, run, j, circuits, work, row) {
+    if !may_go(job, run, j, circuits, work, row) {
         return best;
     }
-    lower(best, j, size.circuits, circuits)
+    lower(best, j, job.circuits, circuits)
 }
 
 // The waiting circuit of lowest number that fits the run.
-pub fn lowest_fit(size: Size, run: Run, circuits: &[u8], work: &[u8], row: &[u8]) -> Option<usize>
-    requires { Board size.links size.circuits circuits.now work.now row.now × AtRun size.links row.now run }
-    ensures { (place_of result ≡ chosen size.links (circuits_in size.circuits circuits.now) (state_in size.links size.circuits work.now row.now)) × OneOf size.circuits result }
+pub fn lowest_fit(job: Job, run: Run, circuits: &[u8], work: &[u8], row: &[u8]) -> Option<usize>
+    requires { Board job.links job.circuits circuits.now work.now row.now × AtRun job.links row.now run }
+    ensures { (place_of result ≡ chosen job.links (circuits_in job.circuits circuits.now) (state_in job.links job.circuits work.now row.now)) × OneOf job.circuits result }
 {
     let mut best = None;
-    for j in 0..size.circuits {
-        best = better_of(best, j, size, run, circuits, work, row);
+    for j in 0..job.circuits {
+        best = better_of(best, j, job, run, circuits, work, row);
     }
     best
 }

@@ -9,7 +9,7 @@ ghost use Rattle.whole_sheet.specs.inner.Board.{AtRun, FirstOpen, light};
 
 use records::Circuit;
 
-// The colours, as the bytes of the lent sheet have them, which C reads; no link is open as a row ends.
+// The colours, as the bytes of the lent sheet have them; no link is open as a row ends.
 pub const RED: u8 = 0;
 
 pub const BLUE: u8 = 1;

@@ -19,30 +19,29 @@ ghost use Rattle.rows.specs.inner.Loops.{Counted};
 ghost use Rattle.whole_sheet.specs.Cells.{cell_count, sheet_list};
 ghost use Rattle.whole_sheet.specs.WholeOutcome.{WholeOutcome};
 
-use crate::choice::Size;
 use records::Line;
 use refusals::Refusal;
 use register::{Counts, Job};
 
 // Everything is zeroed, so that every circuit waits, and c(i) of each link is counted.
-fn prepare(size: Size, circuits: &[u8], work: &mut [u8])
-    requires accepted { Accepted size.links size.wavelengths size.circuits circuits.now }
-    requires work_len { length work.old ≡ 4 * size.links + 4 * size.circuits }
-    ensures { Counted size.links size.circuits size.wavelengths (circuits_in size.circuits circuits.now) work.new }
+fn prepare(job: Job, circuits: &[u8], work: &mut [u8])
+    requires accepted { Accepted job.links job.wavelengths job.circuits circuits.now }
+    requires work_len { length work.old ≡ 4 * job.links + 4 * job.circuits }
+    ensures { Counted job.links job.circuits job.wavelengths (circuits_in job.circuits circuits.now) work.new }
 {
     work.fill(0);
-    loads::write_needs(size, circuits, &mut work[..2 * size.links]);
+    loads::write_needs(job, circuits, &mut work[..2 * job.links]);
 }
 
 // Phase one: the sheet row by row; M is handed back.
-fn fill_whole(size: Size, circuits: &[u8], work: &mut [u8], sheet: &mut [u8]) -> usize
-    requires accepted { Accepted size.links size.wavelengths size.circuits circuits.now }
-    requires room { (length work.old ≡ 4 * size.links + 4 * size.circuits) × (cell_count size.links size.wavelengths (circuits_in size.circuits circuits.now) ≤ length sheet.old) }
-    ensures { (result ≡ most size.links size.wavelengths (circuits_in size.circuits circuits.now)) × Filled size.links size.wavelengths size.circuits circuits.now work.new × (sheet.new ≡ sheet_list size.links size.wavelengths (circuits_in size.circuits circuits.now) sheet.old) }
+fn fill_whole(job: Job, circuits: &[u8], work: &mut [u8], sheet: &mut [u8]) -> usize
+    requires accepted { Accepted job.links job.wavelengths job.circuits circuits.now }
+    requires room { (length work.old ≡ 4 * job.links + 4 * job.circuits) × (cell_count job.links job.wavelengths (circuits_in job.circuits circuits.now) ≤ length sheet.old) }
+    ensures { (result ≡ most job.links job.wavelengths (circuits_in job.circuits circuits.now)) × Filled job.links job.wavelengths job.circuits circuits.now work.new × (sheet.new ≡ sheet_list job.links job.wavelengths (circuits_in job.circuits circuits.now) sheet.old) }
 {
-    let top = loads::most_of(size, circuits);
-    prepare(size, circuits, work);
-    table::all_rows(size, top, circuits, work, sheet);
+    let top = loads::most_of(job, circuits);
+    prepare(job, circuits, work);
+    table::all_rows(job, top, circuits, work, sheet);
     top
 }
 
@@ -61,12 +60,7 @@ fn settle_whole(
     ensures sheet_after { sheet.new ≡ sheet_list job.links job.wavelengths (circuits_in job.circuits circuits.now) sheet.old }
 {
     let k = 4 * job.links + 4 * job.circuits;
-    let size = Size {
-        links: job.links,
-        wavelengths: job.wavelengths,
-        circuits: job.circuits,
-    };
-    let top = fill_whole(size, circuits, &mut work[..k], sheet);
+    let top = fill_whole(job, circuits, &mut work[..k], sheet);
     let counts = strands::lay(job, top, circuits, fibres, assigns, &mut work[..k]);
     work[..k].fill(0);
     counts

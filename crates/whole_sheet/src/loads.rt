@@ -7,8 +7,8 @@ ghost use Rattle.records.specs.Bytes.{cells_of};
 ghost use Rattle.records.specs.Records.{circuits_in};
 ghost use Rattle.rows.specs.Accepted.{Accepted};
 
-use crate::choice::Size;
 use crate::colours;
+use register::Job;
 
 // L(i): the number of circuits on link i.
 fn load_of(circuits: &[u8], m: usize, i: usize) -> usize
@@ -23,32 +23,32 @@ fn load_of(circuits: &[u8], m: usize, i: usize) -> usize
 }
 
 // c(i): L(i) over w, rounded up.
-fn need_of(size: Size, circuits: &[u8], i: usize) -> usize
-    requires { (8 * size.circuits ≤ length circuits.now) × (size.circuits ≤ 2048) × (1 ≤ size.wavelengths) × (size.wavelengths ≤ 80) }
-    ensures { (result ≡ need size.wavelengths (circuits_in size.circuits circuits.now) i) × (result ≤ 2127) }
+fn need_of(job: Job, circuits: &[u8], i: usize) -> usize
+    requires { (8 * job.circuits ≤ length circuits.now) × (job.circuits ≤ 2048) × (1 ≤ job.wavelengths) × (job.wavelengths ≤ 80) }
+    ensures { (result ≡ need job.wavelengths (circuits_in job.circuits circuits.now) i) × (result ≤ 2127) }
 {
-    load_of(circuits, size.circuits, i).div_ceil(size.wavelengths)
+    load_of(circuits, job.circuits, i).div_ceil(job.wavelengths)
 }
 
 // M: the largest c(i).
-pub fn most_of(size: Size, circuits: &[u8]) -> usize
-    requires { Accepted size.links size.wavelengths size.circuits circuits.now }
-    ensures { result ≡ most size.links size.wavelengths (circuits_in size.circuits circuits.now) }
+pub fn most_of(job: Job, circuits: &[u8]) -> usize
+    requires { Accepted job.links job.wavelengths job.circuits circuits.now }
+    ensures { result ≡ most job.links job.wavelengths (circuits_in job.circuits circuits.now) }
 {
     let mut most = 0;
-    for i in 1..size.links + 1 {
-        most = need_of(size, circuits, i).max(most);
+    for i in 1..job.links + 1 {
+        most = need_of(job, circuits, i).max(most);
     }
     most
 }
 
 // c(i) of each link, a cell each.
-pub fn write_needs(size: Size, circuits: &[u8], cells: &mut [u8])
-    requires { Accepted size.links size.wavelengths size.circuits circuits.now × (length cells.old ≡ 2 * size.links) }
-    ensures { cells_of cells.new ≡ each (need size.wavelengths (circuits_in size.circuits circuits.now)) 1 size.links }
+pub fn write_needs(job: Job, circuits: &[u8], cells: &mut [u8])
+    requires { Accepted job.links job.wavelengths job.circuits circuits.now × (length cells.old ≡ 2 * job.links) }
+    ensures { cells_of cells.new ≡ each (need job.wavelengths (circuits_in job.circuits circuits.now)) 1 job.links }
 {
-    for i in 1..size.links + 1 {
-        let c = need_of(size, circuits, i);
+    for i in 1..job.links + 1 {
+        let c = need_of(job, circuits, i);
         records::cells::put(cells, i - 1, c as u16);
     }
 }

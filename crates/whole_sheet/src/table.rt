@@ -8,41 +8,41 @@ ghost use Rattle.rows.specs.inner.Loops.{Written};
 ghost use Rattle.whole_sheet.specs.inner.Board.{Board, AtRun, BroughtTo, placed_state, Stepped, RowFilled};
 ghost use Rattle.whole_sheet.specs.inner.Tables.{above_at, start_as, start_at, Sources, TableAfter, KeptBehind};
 
-use crate::choice::Size;
 use crate::colours::Run;
 use crate::{choice, colours};
 use records::Circuit;
+use register::Job;
 
 // Circuit j is placed in row k: its links within the run become taken.
-fn place(size: Size, k: u16, j: usize, run: Run, circuits: &[u8], work: &mut [u8], row: &mut [u8])
-    requires { Board size.links size.circuits circuits.now work.old row.old × AtRun size.links row.old run × (j < size.circuits) }
-    ensures { BroughtTo size.links size.circuits (placed_state size.links size.circuits k j circuits.now work.old row.old) work.old work.new row.new }
+fn place(job: Job, k: u16, j: usize, run: Run, circuits: &[u8], work: &mut [u8], row: &mut [u8])
+    requires { Board job.links job.circuits circuits.now work.old row.old × AtRun job.links row.old run × (j < job.circuits) }
+    ensures { BroughtTo job.links job.circuits (placed_state job.links job.circuits k j circuits.now work.old row.old) work.old work.new row.new }
 {
     let c = records::record_at::<Circuit>(circuits, j);
-    records::cells::put(work, 2 * size.links + j, k);
+    records::cells::put(work, 2 * job.links + j, k);
     colours::take_links(row, run, c);
 }
 
 // One step of row k, on the run that starts at l. If none fits, every link of the run becomes blue.
-fn one_step(size: Size, k: u16, l: usize, circuits: &[u8], work: &mut [u8], row: &mut [u8])
-    requires { Board size.links size.circuits circuits.now work.old row.old × (l ≡ run_from size.links row.old) × (l ≤ size.links) }
-    ensures { Stepped size.links size.circuits k circuits.now work.old row.old work.new row.new }
+fn one_step(job: Job, k: u16, l: usize, circuits: &[u8], work: &mut [u8], row: &mut [u8])
+    requires { Board job.links job.circuits circuits.now work.old row.old × (l ≡ run_from job.links row.old) × (l ≤ job.links) }
+    ensures { Stepped job.links job.circuits k circuits.now work.old row.old work.new row.new }
 {
     let past = colours::first_closed(row, l);
     let run = Run { from: l, past };
-    match choice::lowest_fit(size, run, circuits, work, row) {
-        Some(j) => place(size, k, j, run, circuits, work, row),
+    match choice::lowest_fit(job, run, circuits, work, row) {
+        Some(j) => place(job, k, j, run, circuits, work, row),
         None => colours::turn_blue(row, run),
     }
 }
 
 // Row k: while open links are left, a step.
-fn fill_row(size: Size, k: u16, circuits: &[u8], work: &mut [u8], row: &mut [u8])
-    requires { Board size.links size.circuits circuits.now work.old row.old }
-    ensures { RowFilled size.links size.circuits k circuits.now work.old row.old work.new row.new }
+fn fill_row(job: Job, k: u16, circuits: &[u8], work: &mut [u8], row: &mut [u8])
+    requires { Board job.links job.circuits circuits.now work.old row.old }
+    ensures { RowFilled job.links job.circuits k circuits.now work.old row.old work.new row.new }
 {
     while let Some(l) = colours::first_open(row) {
-        one_step(size, k, l, circuits, work, row);
+        one_step(job, k, l, circuits, work, row);
     }
 }
 
@@ -71,29 +71,29 @@ fn starting(k: usize, reds: usize, was: u8) -> u8
 }
 
 // Row k begins.
-fn begin_row(size: Size, top: usize, k: usize, work: &[u8], sheet: &mut [u8])
-    requires { (1 ≤ k) × (k ≤ 2127) × (size.links ≤ 512) × (top * size.wavelengths ≤ 2127) × (2 * size.links ≤ length work.now) × Below top (take size.links (cells_of work.now)) × (size.links * (k - 1) + size.links ≤ length sheet.old) }
-    ensures { Written (start_at size.links size.wavelengths top k (cells_of work.now) sheet.old) (size.links * (k - 1) + 1) (size.links * (k - 1) + (size.links + 1)) sheet.old sheet.new }
+fn begin_row(job: Job, top: usize, k: usize, work: &[u8], sheet: &mut [u8])
+    requires { (1 ≤ k) × (k ≤ 2127) × (job.links ≤ 512) × (top * job.wavelengths ≤ 2127) × (2 * job.links ≤ length work.now) × Below top (take job.links (cells_of work.now)) × (job.links * (k - 1) + job.links ≤ length sheet.old) }
+    ensures { Written (start_at job.links job.wavelengths top k (cells_of work.now) sheet.old) (job.links * (k - 1) + 1) (job.links * (k - 1) + (job.links + 1)) sheet.old sheet.new }
 {
-    let n = size.links;
+    let n = job.links;
     let a = n * (k - 1);
     for i in 1..n + 1 {
         let c = usize::from(records::cells::get(work, i - 1));
         let was = above(sheet, n, a, i);
-        sheet[a + i - 1] = starting(k, (top - c) * size.wavelengths, was);
+        sheet[a + i - 1] = starting(k, (top - c) * job.wavelengths, was);
     }
 }
 
 // Row k, from the row above it.
-fn one_row(size: Size, top: usize, k: usize, circuits: &[u8], work: &mut [u8], sheet: &mut [u8])
-    requires sources { Sources size.links size.wavelengths size.circuits top circuits.now work.old sheet.old × (1 ≤ k) × (k ≤ top * size.wavelengths) }
-    requires table_after { TableAfter size.links size.wavelengths size.circuits (k - 1) circuits.now work.old sheet.old }
-    ensures { Sources size.links size.wavelengths size.circuits top circuits.now work.new sheet.new × TableAfter size.links size.wavelengths size.circuits k circuits.now work.new sheet.new × KeptBehind (size.links * k) sheet.old sheet.new }
+fn one_row(job: Job, top: usize, k: usize, circuits: &[u8], work: &mut [u8], sheet: &mut [u8])
+    requires sources { Sources job.links job.wavelengths job.circuits top circuits.now work.old sheet.old × (1 ≤ k) × (k ≤ top * job.wavelengths) }
+    requires table_after { TableAfter job.links job.wavelengths job.circuits (k - 1) circuits.now work.old sheet.old }
+    ensures { Sources job.links job.wavelengths job.circuits top circuits.now work.new sheet.new × TableAfter job.links job.wavelengths job.circuits k circuits.now work.new sheet.new × KeptBehind (job.links * k) sheet.old sheet.new }
 {
-    let n = size.links;
-    begin_row(size, top, k, work, sheet);
+    let n = job.links;
+    begin_row(job, top, k, work, sheet);
     fill_row(
-        size,
+        job,
         k as u16,
         circuits,
         work,
@@ -102,11 +102,11 @@ fn one_row(size: Size, top: usize, k: usize, circuits: &[u8], work: &mut [u8], s
 }
 
 // All rows, to the last.
-pub fn all_rows(size: Size, top: usize, circuits: &[u8], work: &mut [u8], sheet: &mut [u8])
-    requires { Sources size.links size.wavelengths size.circuits top circuits.now work.old sheet.old × TableAfter size.links size.wavelengths size.circuits 0 circuits.now work.old sheet.old }
-    ensures { Sources size.links size.wavelengths size.circuits top circuits.now work.new sheet.new × TableAfter size.links size.wavelengths size.circuits (top * size.wavelengths) circuits.now work.new sheet.new × KeptBehind (size.links * (top * size.wavelengths)) sheet.old sheet.new }
+pub fn all_rows(job: Job, top: usize, circuits: &[u8], work: &mut [u8], sheet: &mut [u8])
+    requires { Sources job.links job.wavelengths job.circuits top circuits.now work.old sheet.old × TableAfter job.links job.wavelengths job.circuits 0 circuits.now work.old sheet.old }
+    ensures { Sources job.links job.wavelengths job.circuits top circuits.now work.new sheet.new × TableAfter job.links job.wavelengths job.circuits (top * job.wavelengths) circuits.now work.new sheet.new × KeptBehind (job.links * (top * job.wavelengths)) sheet.old sheet.new }
 {
-    for k in 1..top * size.wavelengths + 1 {
-        one_row(size, top, k, circuits, work, sheet);
+    for k in 1..top * job.wavelengths + 1 {
+        one_row(job, top, k, circuits, work, sheet);
     }
 }

@@ -9,8 +9,8 @@ all_rows-requires c =
     let most-of = c.most_of-top in
     let a = c.args in
     let c' = prepare.ensures in (
-      first_sources a.size.links a.size.wavelengths a.size.circuits a.circuits.now _ c' _ a.sheet.now c.requires.accepted most-of.ensures c.requires.room.1,
-      first_table a.size.links a.size.wavelengths a.size.circuits a.circuits.now _ c' a.sheet.now,
+      first_sources a.job.links a.job.wavelengths a.job.circuits a.circuits.now _ c' _ a.sheet.now c.requires.accepted most-of.ensures c.requires.room.1,
+      first_table a.job.links a.job.wavelengths a.job.circuits a.circuits.now _ c' a.sheet.now,
     )
 
 pub returns : goal.returns
@@ -21,6 +21,6 @@ returns c =
     let a = c.args in
     let r = all-rows.ensures in (
       most-of.ensures,
-      all_filled a.size.links a.size.wavelengths a.size.circuits _ a.circuits.now _ a.sheet.now _ r.0 r.1,
-      all_drawn a.size.links a.size.wavelengths a.size.circuits _ a.circuits.now _ a.sheet.now _ r.0 r.1 r.2,
+      all_filled a.job.links a.job.wavelengths a.job.circuits _ a.circuits.now _ a.sheet.now _ r.0 r.1,
+      all_drawn a.job.links a.job.wavelengths a.job.circuits _ a.circuits.now _ a.sheet.now _ r.0 r.1 r.2,
     )

@@ -10,6 +10,6 @@ returns c =
     let a = c.args in
     let fill = c.fill in
     let y = c.write_needs in
-    let e : fill.new.self ≡ replicate (4 * a.size.links + 4 * a.size.circuits) 0 = fill.ensures.after (λ y h. h) ∙ ap (λ (k : ℕ). replicate k 0) c.requires.work_len in
-    back a.size.links a.size.circuits a.size.wavelengths (circuits_in a.size.circuits a.circuits.now) fill.new.self y.new.cells (fill.ensures.len ∙ c.requires.work_len) (zeros a.size.links a.size.circuits _ e)
-    (y.auto.cells ∙ length-take-le (2 * a.size.links) fill.new.self (omega (arith, fill.ensures.len))) y.ensures
+    let e : fill.new.self ≡ replicate (4 * a.job.links + 4 * a.job.circuits) 0 = fill.ensures.after (λ y h. h) ∙ ap (λ (k : ℕ). replicate k 0) c.requires.work_len in
+    back a.job.links a.job.circuits a.job.wavelengths (circuits_in a.job.circuits a.circuits.now) fill.new.self y.new.cells (fill.ensures.len ∙ c.requires.work_len) (zeros a.job.links a.job.circuits _ e)
+    (y.auto.cells ∙ length-take-le (2 * a.job.links) fill.new.self (omega (arith, fill.ensures.len))) y.ensures

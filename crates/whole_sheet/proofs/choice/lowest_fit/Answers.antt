@@ -25,5 +25,5 @@ unfolding chosen may_go number_of
 returns c =
     let l = c.loop-j in
     let a = c.args in
-    let e : l.j ≡ length (circuits_in a.size.circuits a.circuits.now) = omega (arith, length_circuits_in a.size.circuits a.circuits.now) in
+    let e : l.j ≡ length (circuits_in a.job.circuits a.circuits.now) = omega (arith, length_circuits_in a.job.circuits a.circuits.now) in
     (l.invariant.0 ∙ ap (lowest _ _) e, l.invariant.1)

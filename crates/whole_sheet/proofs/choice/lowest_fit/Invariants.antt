@@ -6,4 +6,4 @@ use Rattle.whole_sheet.proofs.choice.lowest_fit.Given as goal
 
 abbrev pub invariant-loop-j : goal.invariant-loop-j
 invariant-loop-j l =
-    (place_of l.best ≡ lowest (may_go l.size.links l.size.circuits l.circuits l.work l.row) (number_of l.size.circuits l.circuits) l.j) × OneOf l.size.circuits l.best
+    (place_of l.best ≡ lowest (may_go l.job.links l.job.circuits l.circuits l.work l.row) (number_of l.job.circuits l.circuits) l.j) × OneOf l.job.circuits l.best

@@ -20,5 +20,5 @@ pub returns : goal.returns
 unfolding most
 returns c =
     let l = c.loop-i in
-    let e : l.i - 1 ≡ c.args.size.links = omega arith in
+    let e : l.i - 1 ≡ c.args.job.links = omega arith in
     l.invariant ∙ ap (top _) e

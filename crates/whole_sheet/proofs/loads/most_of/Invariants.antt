@@ -7,4 +7,4 @@ use Rattle.method.specs.Sheet.{need}
 use Rattle.whole_sheet.proofs.loads.most_of.Given as goal
 
 abbrev pub invariant-loop-i : goal.invariant-loop-i
-invariant-loop-i l = l.most ≡ top (need l.size.wavelengths (circuits_in l.size.circuits l.circuits)) (l.i - 1)
+invariant-loop-i l = l.most ≡ top (need l.job.wavelengths (circuits_in l.job.circuits l.circuits)) (l.i - 1)

@@ -18,7 +18,7 @@ pub returns : goal.returns
 unfolding need
 returns c =
     let a = c.args in
-    let w = a.size.wavelengths in
-    let cs = circuits_in a.size.circuits a.circuits.now in
+    let w = a.job.wavelengths in
+    let cs = circuits_in a.job.circuits a.circuits.now in
     let e = c.div_ceil.ensures ∙ rounded_up c.load_of.result w (omega arith) in
-    (e ∙ ap (λ (l : ℕ). (l + (w - 1)) / w) c.load_of.ensures, omega (arith, e, c.load_of.ensures, div-le_self (c.load_of.result + (w - 1)) w, load_few cs a.i, length_circuits_in a.size.circuits a.circuits.now))
+    (e ∙ ap (λ (l : ℕ). (l + (w - 1)) / w) c.load_of.ensures, omega (arith, e, c.load_of.ensures, div-le_self (c.load_of.result + (w - 1)) w, load_few cs a.i, length_circuits_in a.job.circuits a.circuits.now))

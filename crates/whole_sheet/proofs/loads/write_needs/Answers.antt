@@ -12,7 +12,7 @@ loop-i-preserved c =
     let l = c.loop-i in
     let a = c.args in (
       written_turn _ _ l.i _ _ _ _ l.invariant.0 (stored _ _ _ _ put.ensures) need-of.ensures.0 (omega arith)
-          (omega (arith, length_cells_of a.cells.now a.size.links (omega arith))),
+          (omega (arith, length_cells_of a.cells.now a.job.links (omega arith))),
       put.auto.work ∙ l.invariant.1,
     )
 
@@ -20,4 +20,4 @@ pub returns : goal.returns
 returns c =
     let l = c.loop-i in
     let a = c.args in
-    written_all _ _ l.i _ _ l.invariant.0 (length_cells_of a.cells.now a.size.links (omega arith)) (omega arith)
+    written_all _ _ l.i _ _ l.invariant.0 (length_cells_of a.cells.now a.job.links (omega arith)) (omega arith)

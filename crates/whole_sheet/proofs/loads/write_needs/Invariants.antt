@@ -9,4 +9,4 @@ use Rattle.whole_sheet.proofs.loads.write_needs.Given as goal
 
 abbrev pub invariant-loop-i : goal.invariant-loop-i
 invariant-loop-i l =
-    Written (need l.size.wavelengths (circuits_in l.size.circuits l.circuits)) 1 l.i (cells_of l.initial.cells) (cells_of l.cells) × (length l.cells ≡ length l.initial.cells)
+    Written (need l.job.wavelengths (circuits_in l.job.circuits l.circuits)) 1 l.i (cells_of l.initial.cells) (cells_of l.cells) × (length l.cells ≡ length l.initial.cells)

@@ -11,14 +11,14 @@ pub overflow_mul-k-end : goal.overflow_mul-k-end
 overflow_mul-k-end c =
     let a = c.args in
     let y = c.requires.0 in
-    let l = top_low a.size.links a.size.wavelengths a.size.circuits a.top a.circuits.now y.accepted y.top_is in
+    let l = top_low a.job.links a.job.wavelengths a.job.circuits a.top a.circuits.now y.accepted y.top_is in
     omega arith
 
 pub overflow_add-k-end : goal.overflow_add-k-end
 overflow_add-k-end c =
     let a = c.args in
     let y = c.requires.0 in
-    let l = top_low a.size.links a.size.wavelengths a.size.circuits a.top a.circuits.now y.accepted y.top_is in
+    let l = top_low a.job.links a.job.wavelengths a.job.circuits a.top a.circuits.now y.accepted y.top_is in
     omega arith
 
 pub loop-k-preserved : goal.loop-k-preserved
@@ -31,8 +31,8 @@ loop-k-preserved c =
     let e : l.k ≡ l.k + 1 - 1 = omega arith in (
       s.0,
       subst
-          (λ (x : ℕ). TableAfter a.size.links a.size.wavelengths a.size.circuits x a.circuits.now one-row.new.work one-row.new.sheet)
+          (λ (x : ℕ). TableAfter a.job.links a.job.wavelengths a.job.circuits x a.circuits.now one-row.new.work one-row.new.sheet)
           e s.1,
-      kept_on a.size.links l.k (a.top * a.size.wavelengths) _ _ _ (omega arith) v.2 s.2,
+      kept_on a.job.links l.k (a.top * a.job.wavelengths) _ _ _ (omega arith) v.2 s.2,
       one-row.auto.sheet ∙ v.3,
     )

@@ -7,6 +7,6 @@ use Rattle.whole_sheet.proofs.table.all_rows.Given as goal
 
 abbrev pub invariant-loop-k : goal.invariant-loop-k
 invariant-loop-k l =
-    Sources l.size.links l.size.wavelengths l.size.circuits l.top l.circuits l.work l.sheet
-    × TableAfter l.size.links l.size.wavelengths l.size.circuits (l.k - 1) l.circuits l.work l.sheet × KeptBehind (l.size.links * (l.top * l.size.wavelengths)) l.initial.sheet l.sheet
+    Sources l.job.links l.job.wavelengths l.job.circuits l.top l.circuits l.work l.sheet
+    × TableAfter l.job.links l.job.wavelengths l.job.circuits (l.k - 1) l.circuits l.work l.sheet × KeptBehind (l.job.links * (l.top * l.job.wavelengths)) l.initial.sheet l.sheet
     × (length l.sheet ≡ length l.initial.sheet)

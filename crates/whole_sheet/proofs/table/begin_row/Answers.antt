@@ -15,7 +15,7 @@ overflow_sub-top c =
     let l = c.loop-i in
     let v = read a.work.now l.i get.result (omega arith) (omega arith) get.ensures in
     omega
-    (arith, v, at_front a.size.links (cells_of a.work.now) l.i (omega arith) (omega arith), below_at a.top (take a.size.links (cells_of a.work.now)) l.i c.requires.5)
+    (arith, v, at_front a.job.links (cells_of a.work.now) l.i (omega arith) (omega arith), below_at a.top (take a.job.links (cells_of a.work.now)) l.i c.requires.5)
 
 pub loop-i-preserved : goal.loop-i-preserved
 loop-i-preserved c =
@@ -26,5 +26,5 @@ loop-i-preserved c =
     let l = c.loop-i in
     let y = l.invariant in
     let r = c.requires.6 in
-    start_turn a.size.links a.size.wavelengths a.top a.k l.i _ _ _ (cells_of a.work.now) a.sheet.now l.sheet (omega arith) (omega arith) r y starting.ensures
+    start_turn a.job.links a.job.wavelengths a.top a.k l.i _ _ _ (cells_of a.work.now) a.sheet.now l.sheet (omega arith) (omega arith) r y starting.ensures
     (index.ensures ∙ read a.work.now l.i get.result (omega arith) (omega arith) get.ensures) c.above-was.ensures

@@ -7,4 +7,4 @@ use Rattle.whole_sheet.proofs.table.begin_row.Given as goal
 
 abbrev pub invariant-loop-i : goal.invariant-loop-i
 invariant-loop-i l =
-    Written (start_at l.size.links l.size.wavelengths l.top l.k (cells_of l.work) l.initial.sheet) (l.size.links * (l.k - 1) + 1) (l.size.links * (l.k - 1) + l.i) l.initial.sheet l.sheet
+    Written (start_at l.job.links l.job.wavelengths l.top l.k (cells_of l.work) l.initial.sheet) (l.job.links * (l.k - 1) + 1) (l.job.links * (l.k - 1) + l.i) l.initial.sheet l.sheet

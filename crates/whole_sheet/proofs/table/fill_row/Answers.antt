@@ -13,7 +13,7 @@ pub loop-l-init : goal.loop-l-init
 loop-l-init c =
     let a = c.args in (
       c.requires,
-      begin-loop a.size.links (circuits_in a.size.circuits a.circuits.now) a.k (state_in a.size.links a.size.circuits a.work.now a.row.now),
+      begin-loop a.job.links (circuits_in a.job.circuits a.circuits.now) a.k (state_in a.job.links a.job.circuits a.work.now a.row.now),
       refl,
     )
 
@@ -24,9 +24,9 @@ loop-l-smaller c =
     let a = c.args in
     let v = loop.invariant in
     let first = rw (v.0.wide, c.in-Some.is) at c.first_open.ensures in
-    subst (λ (x : State). opens a.size.links x < opens a.size.links (state_in a.size.links a.size.circuits loop.work loop.row))
+    subst (λ (x : State). opens a.job.links x < opens a.job.links (state_in a.job.links a.job.circuits loop.work loop.row))
     (sym one-step.ensures.shows)
-    (fewer-open a.size.links (circuits_in a.size.circuits a.circuits.now) v.0.file.lies a.k (state_in a.size.links a.size.circuits loop.work loop.row) (omega (arith, first.0, first.1)))
+    (fewer-open a.job.links (circuits_in a.job.circuits a.circuits.now) v.0.file.lies a.k (state_in a.job.links a.job.circuits loop.work loop.row) (omega (arith, first.0, first.1)))
 
 pub loop-l-preserved : goal.loop-l-preserved
 loop-l-preserved c =
@@ -37,7 +37,7 @@ loop-l-preserved c =
     let first = rw (v.0.wide, c.in-Some.is) at c.first_open.ensures in
     let s = one-step.ensures in (
       record { file = v.0.file; room = s.room; wide = s.wide },
-      loop_turn a.size.links (circuits_in a.size.circuits a.circuits.now) v.0.file.lies a.k _ _ _ v.1 (omega (arith, first.0, first.1)) s.shows,
+      loop_turn a.job.links (circuits_in a.job.circuits a.circuits.now) v.0.file.lies a.k _ _ _ v.1 (omega (arith, first.0, first.1)) s.shows,
       s.needs ∙ v.2,
     )
 
@@ -50,5 +50,5 @@ returns c =
       room = v.0.room;
       wide = v.0.wide;
       needs = v.2;
-      shows = loop_end a.size.links (circuits_in a.size.circuits a.circuits.now) a.k _ _ v.1 (omega (arith, none));
+      shows = loop_end a.job.links (circuits_in a.job.circuits a.circuits.now) a.k _ _ v.1 (omega (arith, none));
     }

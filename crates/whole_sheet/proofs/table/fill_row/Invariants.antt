@@ -11,11 +11,11 @@ use Rattle.whole_sheet.proofs.table.fill_row.Given as goal
 
 abbrev pub invariant-loop-l : goal.invariant-loop-l
 invariant-loop-l l =
-    Board l.size.links l.size.circuits l.circuits l.work l.row
-    × InLoop l.size.links (circuits_in l.size.circuits l.circuits) l.k
-    (steps l.size.links (circuits_in l.size.circuits l.circuits) l.size.links l.k (state_in l.size.links l.size.circuits l.initial.work l.initial.row))
-    (state_in l.size.links l.size.circuits l.work l.row)
-    × (needs_in l.size.links (cells_of l.work) ≡ needs_in l.size.links (cells_of l.initial.work))
+    Board l.job.links l.job.circuits l.circuits l.work l.row
+    × InLoop l.job.links (circuits_in l.job.circuits l.circuits) l.k
+    (steps l.job.links (circuits_in l.job.circuits l.circuits) l.job.links l.k (state_in l.job.links l.job.circuits l.initial.work l.initial.row))
+    (state_in l.job.links l.job.circuits l.work l.row)
+    × (needs_in l.job.links (cells_of l.work) ≡ needs_in l.job.links (cells_of l.initial.work))
 
 abbrev pub decreases-loop-l : goal.decreases-loop-l
-decreases-loop-l l = opens l.size.links (state_in l.size.links l.size.circuits l.work l.row)
+decreases-loop-l l = opens l.job.links (state_in l.job.links l.job.circuits l.work l.row)

@@ -19,8 +19,8 @@ turn_blue-requires c =
     let first-closed = c.first_closed-past in
     let a = c.args in
     let b = c.requires.0 in
-    let p = from_pos a.size.links a.row.now in
-    let q = past_le a.size.links a.row.now (omega arith) in
+    let p = from_pos a.job.links a.row.now in
+    let q = past_le a.job.links a.row.now (omega arith) in
     let past = rw b.wide at first-closed.ensures in
     let wide = b.wide in
     let line = b.file.line in
@@ -38,8 +38,8 @@ returns-in-Some c =
       room = s.room;
       wide = s.wide;
       needs = s.needs;
-      shows = place_step a.size.links a.size.circuits a.k a.circuits.now a.work.now a.row.now _
-          (found-run a.size.links a.l _ a.row.now c.requires.1 past c.requires.2) _ _
+      shows = place_step a.job.links a.job.circuits a.k a.circuits.now a.work.now a.row.now _
+          (found-run a.job.links a.l _ a.row.now c.requires.1 past c.requires.2) _ _
           (sym lowest-fit.ensures.0 ∙ ap place_of c.in-Some.is) s.shows;
     }
 
@@ -56,7 +56,7 @@ returns-in-None c =
       room = b.room;
       wide = turn-blue.auto.row ∙ b.wide;
       needs = refl;
-      shows = blue_step a.size.links a.size.circuits a.k a.circuits.now a.work.now a.row.now _
-          (found-run a.size.links a.l _ a.row.now c.requires.1 past c.requires.2) _
+      shows = blue_step a.job.links a.job.circuits a.k a.circuits.now a.work.now a.row.now _
+          (found-run a.job.links a.l _ a.row.now c.requires.1 past c.requires.2) _
           (sym lowest-fit.ensures.0 ∙ ap place_of c.in-None.is) blues;
     }

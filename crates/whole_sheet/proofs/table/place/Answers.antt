@@ -10,8 +10,8 @@ take_links-requires c =
     let a = c.args in
     let b = c.requires.0 in
     let r = c.requires.1 in
-    let p = from_pos a.size.links a.row.now in
-    let q = past_le a.size.links a.row.now (omega (arith, r.there)) in
+    let p = from_pos a.job.links a.row.now in
+    let q = past_le a.job.links a.row.now (omega (arith, r.there)) in
     let wide = b.wide in
     let line = b.file.line in
     (omega arith, omega arith, omega arith)
@@ -23,5 +23,5 @@ returns c =
     let a = c.args in
     let b = c.requires.0 in
     let links = rw b.wide at c.take_links.ensures in
-    placed a.size.links a.size.circuits a.k a.circuits.now a.work.now a.row.now a.run c.requires.1 a.j _ _ _ c.requires.2
+    placed a.job.links a.job.circuits a.k a.circuits.now a.work.now a.row.now a.run c.requires.1 a.j _ _ _ c.requires.2
     (put.auto.work ∙ b.room) circuit-at.ensures put.ensures links
