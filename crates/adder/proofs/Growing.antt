@@ -1,10 +1,11 @@
 -- What the steps of `grow` ask, and what they leave is the addition. Assumes nothing.
-use Prim.Native.Nat.{◌*◌, ◌+◌, ◌<◌, ◌≤◌, suc, ℕ}
+use Prim.Native.Nat.{◌*◌, ◌+◌, ◌-◌, ◌<◌, ◌≤◌, suc, ℕ}
 use lib.ListN.{drop, get_or, length, length-append, length-drop, length-replicate, replicate, take, take-append-drop}
-use lib.Seq.{drop_at, drop-drop}
+use lib.Seq.{drop_at, drop-drop, take_at}
 use mathlib.Core.Bool.{true}
 use mathlib.Core.List.{List, [], ◌++◌, ◌∷◌, append_assoc}
 use mathlib.Core.Path.{◌∙◌, ◌≡◌, ap, ap₂, refl, subst, sym}
+use borrow.Rule.Slice.PartMut.{mid_of, post_of, put_mid}
 use native.Mathlib.Nat.{zero-add}
 use native.Mathlib.Omega.{arith}
 use Rattle.additions.proofs.Settling.{length_settled}
@@ -38,6 +39,14 @@ use Rattle.register.specs.Lists.{assignment_list, assignment_record, assignment_
 use Rattle.register.specs.Plans.{place_of, plan_in, span_of}
 use Rattle.register.specs.declared.Counts.{Counts}
 use Rattle.adder.specs.inner.Growing.{Grew, GrowAsked}
+
+-- a part from byte 0 to e, lent and come back
+pub front_back : (e : ℕ) (xs ys : List ℕ) → length ys ≡ e - 0 → mid_of 0 (e - 0) (put_mid 0 (e - 0) xs ys) ≡ ys
+front_back e xs ys l = take_at ys (post_of 0 (e - 0) xs) (e - 0) l
+
+-- there is room for it again
+pub front_room : (e : ℕ) (xs ys : List ℕ) → length ys ≡ e → e ≤ length (put_mid 0 (e - 0) xs ys)
+front_room e xs ys l = subst (λ z. e ≤ z) (sym (length-append ys (post_of 0 (e - 0) xs))) (omega arith)
 
 -- LENGTHS. The length of fibres none of which is longer than 65,536
 total_low : (fs : List Fibre) → ((i : ℕ) → i < length fs → span_length (get_or fs i no_fibre) ≤ 65536) → total fs ≤ 65536 * length fs

@@ -40,6 +40,10 @@ joined_accepted n w k m e old new joined rest a b few once long is =
       waves = a.waves;
     }
 
+-- there is room for it in the list where it was written
+pub joined_room : (e : ℕ) (both joined rest : List ℕ) → e ≡ length both → joined ≡ both ++ rest → e ≤ length joined
+joined_room e both joined rest long is = let n = ap length is ∙ length-append both rest in omega arith
+
 -- and has the floor of both
 pub joined_floor : (n w k m e : ℕ) (old new joined rest : List ℕ) (r : ℕ) → length old ≡ 8 * k → e ≡ length (old ++ new) → joined ≡ (old ++ new) ++ rest
     → r ≡ floor n w (circuits_in (k + m) (take e joined)) → r ≡ floor n w (circuits_in k old ++ circuits_in m new)

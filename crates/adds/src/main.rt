@@ -4,9 +4,9 @@
 #![tactic(auto)]
 
 ghost use Rattle.std.specs.Prelude.{◌≤◌, length, IfSome};
-ghost use Rattle.std.specs.Option.{option_copied};
 ghost use Rattle.prints.specs.Adding.{AddRead};
 
+use files::Start;
 use std::io::Print;
 use std::rt::Files;
 
@@ -24,17 +24,17 @@ fn keep<R: Files + Print>(rt: &R, circuits: &[u8], fibres: &[u8], assigns: &[u8]
 // From what reading the five files gave, keeps the grown plan and prints its sheet, or prints the refusal.
 fn grow_and_keep<R: Files + Print>(
     rt: &R,
-    line: Option<&[u8]>,
+    line: Option<Start>,
     got_circuits: Option<usize>,
     circuits: &mut [u8],
-    new: Option<&[u8]>,
+    new: Option<Start>,
     got_fibres: Option<usize>,
     fibres: &mut [u8],
     got_assigns: Option<usize>,
     assigns: &mut [u8],
     out: &mut [u8],
 )
-    requires { AddRead got_circuits (option_copied new) got_fibres got_assigns circuits.old fibres.old assigns.old × (213072 ≤ length out.old) }
+    requires { AddRead line got_circuits new got_fibres got_assigns circuits.old fibres.old assigns.old × (213072 ≤ length out.old) }
 {
     let grown = prints::adding::grow_files(
         line,
@@ -62,7 +62,7 @@ fn grow_and_keep<R: Files + Print>(
 }
 
 // Reads a list, which stands at the start of its buffer: a record more than an addition takes. What is told: how many bytes.
-fn read_list<R: Files>(rt: &R, name: &str, list: &mut [u8]) -> Option<usize>
+fn read_list<R: Files>(rt: &R, name: &[u8], list: &mut [u8]) -> Option<usize>
     requires { 16392 ≤ length list.old }
     ensures { IfSome result (λ k. k ≤ 16392) }
 {
@@ -79,11 +79,11 @@ fn read_and_keep<R: Files + Print>(
     assigns: &mut [u8; 32776],
     out: &mut [u8; 213072],
 ) {
-    let line = files::read_file(rt, "line.rec", line).ok();
-    let got_circuits = files::read_start(rt, "circuits.rec", circuits).ok();
-    let new = files::read_file(rt, "new.rec", new).ok();
-    let got_fibres = read_list(rt, "fibres.rec", fibres);
-    let got_assigns = read_list(rt, "assign.rec", assigns);
+    let line = files::read_file(rt, b"line.rec", line).ok();
+    let got_circuits = files::read_start(rt, b"circuits.rec", circuits).ok();
+    let new = files::read_file(rt, b"new.rec", new).ok();
+    let got_fibres = read_list(rt, b"fibres.rec", fibres);
+    let got_assigns = read_list(rt, b"assign.rec", assigns);
     grow_and_keep(
         rt,
         line,

@@ -81,6 +81,10 @@ and_false false = refl
 pub and_then : (a b r : Bool) → a ≡ true → r ≡ b → r ≡ a && b
 and_then a b r p q = cc
 
+-- the first fails, and tells
+pub and_not : (a b r : Bool) → a ≡ false → r ≡ a → r ≡ a && b
+and_not a b r p q = cc
+
 -- what fails chooses the other
 pub cond_not : {A : Type 0} (b : Bool) (x y : A) → cond (not b) x y ≡ cond b y x
 cond_not true x y = refl

@@ -214,6 +214,13 @@ seek_none p i k h =
 pub any_hit : (p : ℕ → Bool) (m j : ℕ) → j < m → p j ≡ true → any p m ≡ true
 any_hit p m j h t = on (any p m) (λ e. e) (λ e. clash (p j) t (any_false p m e j h))
 
+-- some passes where the count of those that do is not zero
+pub any_counted : (p : ℕ → Bool) (m : ℕ) → any p m ≡ not (eqb (count p m) 0)
+any_counted p m =
+    on (any p m)
+    (λ e. let r = any_true p m e in e ∙ ap not (sym (ne_eqb (count p m) 0 (λ z. omega (arith, count_some p m r.0 r.1 r.2, z)))))
+    (λ e. e ∙ ap not (sym (eq-eqb (count p m) 0 (count_none p m (any_false p m e)))))
+
 -- none of them passes, so none does
 pub any_none : (p : ℕ → Bool) (m : ℕ) → ((j : ℕ) → j < m → p j ≡ false) → any p m ≡ false
 any_none p m h = on (any p m) (λ e. let r = any_true p m e in clash (p r.0) r.2 (h r.0 r.1)) (λ e. e)
@@ -252,6 +259,11 @@ seek_here p i e h q =
 pub seek_over : (p : ℕ → Bool) (i e : ℕ) → e ≤ i → seek p i (e - i) ≡ i
 unfolding seek
 seek_over p i e h = let k : e - i ≡ 0 = omega arith in rw k
+
+-- place m does not pass: whether some place below m + 1 does is as below m
+pub any_past : (p : ℕ → Bool) (m : ℕ) → p m ≡ false → any p (m + 1) ≡ any p m
+unfolding any
+any_past p m e = rw (add-one m, e)
 
 -- two tests that agree on the places searched find the same
 pub seek_same : (p q : ℕ → Bool) (i k : ℕ) → ((x : ℕ) → i ≤ x → x < i + k → p x ≡ q x) → seek p i k ≡ seek q i k

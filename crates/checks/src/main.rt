@@ -19,10 +19,10 @@ fn read_and_print<R: Files + Print>(
 )
     requires { (length line.old ≡ 7) × (length circuits.old ≡ 16392) × (length fibres.old ≡ 32776) × (length assigns.old ≡ 16392) × (80 ≤ length out.old) }
 {
-    let line = files::read_file(rt, "line.rec", line).ok();
-    let circuits = files::read_file(rt, "circuits.rec", circuits).ok();
-    let fibres = files::read_file(rt, "fibres.rec", fibres).ok();
-    let assigns = files::read_file(rt, "assign.rec", assigns).ok();
+    let line = files::read_file(rt, b"line.rec", line).ok();
+    let circuits = files::read_file(rt, b"circuits.rec", circuits).ok();
+    let fibres = files::read_file(rt, b"fibres.rec", fibres).ok();
+    let assigns = files::read_file(rt, b"assign.rec", assigns).ok();
     let k = prints::checks::print_check(line, circuits, fibres, assigns, out);
     let _ = files::write_output(rt, &out[..k]);
 }

@@ -6,6 +6,7 @@ use mathlib.Core.List.{List}
 use native.Mathlib.Omega.{arith}
 use borrow.Author.Tests.{eq-eqb}
 use lib.Dec.{eqb}
+use lib.ListN.{length, get_or}
 use Rattle.basics.specs.Tools.{any}
 use Rattle.basics.proofs.Bools.{and_of, and_r, by_eq, clash, never}
 use Rattle.basics.proofs.Searches.{any_false, any_hit, any_none, any_true}
@@ -14,7 +15,7 @@ use Rattle.records.specs.declared.Circuit.{Circuit}
 use Rattle.records.proofs.Files.{circuits_in_at, length_circuits_in}
 use Rattle.method.specs.Line.{Lies, nobody}
 use Rattle.method.proofs.Circuits.{lies_at}
-use Rattle.chains.specs.Riders.{OnFibres, fibre_in}
+use Rattle.chains.specs.Riders.{OnFibres, Unchained, fibre_in}
 use Rattle.clashes.specs.Clashes.{Placed, clashes_in}
 use Rattle.clashes.specs.inner.Sweeps.{ApartTo, clashes_on}
 
@@ -60,4 +61,18 @@ placed_part {n} {k} {p} {s} {assigns} q l h =
       lies = lies_part n p q s l h.lies;
       numbered = λ j b. h.numbered j (omega arith);
       waves = λ j b. h.waves j (omega arith);
+    }
+
+-- their chains can be made
+pub placed_unchained : {n k p : ℕ} {s assigns next heads : List ℕ} → Placed n k p s assigns → length next ≡ 2048 → length heads ≡ 4096 → ((f : ℕ) → get_or heads f 0 ≡ 0) → Unchained n p s assigns next heads
+placed_unchained h a b z =
+    record {
+      line = h.line;
+      few = h.few;
+      file = h.file;
+      listed = h.listed;
+      room = omega (arith, h.few);
+      lies = h.lies;
+      numbered = λ j l. (let t = h.numbered j l in let t₁ = t.1 in (t.0, omega (arith, h.fibres)));
+      none = z;
     }

@@ -60,7 +60,8 @@ fn clashes_below(circuits: &[u8], assigns: &[u8], n: usize, k: usize, q: usize) 
         heads: [0; 4096],
         next: [0; 2048],
     };
-    chains::by_fibre(circuits, assigns, n, q, &mut chains);
+    let Chains { heads, next } = &mut chains;
+    chains::by_fibre(circuits, assigns, n, q, next, heads);
     clashes_on_any(circuits, assigns, k, &chains)
 }
 

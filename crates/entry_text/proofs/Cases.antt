@@ -173,22 +173,22 @@ unfolding letter entry_of read too_long header_from header_in circuits_from circ
 letter_wrong = refl
 
 -- a number is missing
-pub short_fault : fault_at short 2 CircuitLine ≡ NumberMissing
+pub short_fault : fault_at short 2 2 ≡ NumberMissing
 unfolding short entry_of read too_long header_from header_in circuits_from circuit_in idle_line word_number word_past numeral_in word_from word_to line_end spelt is_space is_digit seek fault_at line_fault fault_from word_fault is_sign is_mark digits_to line_start after_lines next_line
 short_fault = refl
 
 -- a word is too many
-pub long_fault : fault_at long 2 CircuitLine ≡ WordTooMany
+pub long_fault : fault_at long 2 2 ≡ WordTooMany
 unfolding long entry_of read too_long header_from header_in circuits_from circuit_in idle_line word_number word_past numeral_in word_from word_to line_end spelt is_space is_digit seek fault_at line_fault fault_from word_fault is_sign is_mark digits_to line_start after_lines next_line
 long_fault = refl
 
 -- a number is too large
-pub large_fault : fault_at large 2 CircuitLine ≡ TooLarge
+pub large_fault : fault_at large 2 2 ≡ TooLarge
 unfolding large entry_of read too_long header_from header_in circuits_from circuit_in idle_line word_number word_past numeral_in word_from word_to line_end spelt is_space is_digit seek fault_at line_fault fault_from word_fault is_sign is_mark digits_to line_start after_lines next_line
 large_fault = refl
 
 -- a word is no number
-pub letter_fault : fault_at letter 2 CircuitLine ≡ NoNumber
+pub letter_fault : fault_at letter 2 2 ≡ NoNumber
 unfolding letter entry_of read too_long header_from header_in circuits_from circuit_in idle_line word_number word_past numeral_in word_from word_to line_end spelt is_space is_digit seek fault_at line_fault fault_from word_fault is_sign is_mark digits_to line_start after_lines next_line
 letter_fault = refl
 
@@ -197,7 +197,7 @@ unfoldable pub sign : List ℕ
 sign = 53 ∷ 32 ∷ 50 ∷ 10 ∷ 49 ∷ 32 ∷ 45 ∷ 50 ∷ 32 ∷ 51 ∷ 10 ∷ []
 
 -- the second line has it
-pub sign_fault : fault_at sign 2 CircuitLine ≡ Sign
+pub sign_fault : fault_at sign 2 2 ≡ Sign
 unfolding sign entry_of read too_long header_from header_in circuits_from circuit_in idle_line word_number word_past numeral_in word_from word_to line_end spelt is_space is_digit seek fault_at line_fault fault_from word_fault is_sign is_mark digits_to line_start after_lines next_line
 sign_fault = refl
 
@@ -206,7 +206,7 @@ unfoldable pub mark : List ℕ
 mark = 239 ∷ 187 ∷ 191 ∷ 53 ∷ 32 ∷ 50 ∷ 10 ∷ []
 
 -- the first line has it
-pub mark_fault : fault_at mark 1 HeaderLine ≡ Mark
+pub mark_fault : fault_at mark 1 1 ≡ Mark
 unfolding mark entry_of read too_long header_from header_in circuits_from circuit_in idle_line word_number word_past numeral_in word_from word_to line_end spelt is_space is_digit seek fault_at line_fault fault_from word_fault is_sign is_mark digits_to line_start after_lines next_line
 mark_fault = refl
 
@@ -262,7 +262,7 @@ unfolding gridless entry_of read too_long header_from header_in circuits_from ci
 gridless_wrong = refl
 
 -- a word is no number
-pub gridless_fault : fault_at gridless 1 HeaderLine ≡ NoNumber
+pub gridless_fault : fault_at gridless 1 1 ≡ NoNumber
 unfolding gridless entry_of read too_long header_from header_in circuits_from circuit_in idle_line word_number word_past numeral_in word_from word_to line_end spelt is_space is_digit seek fault_at line_fault fault_from word_fault is_sign is_mark digits_to line_start after_lines next_line
 gridless_fault = refl
 
@@ -276,6 +276,6 @@ unfolding wide entry_of read too_long header_from header_in circuits_from circui
 wide_wrong = refl
 
 -- a word is too many
-pub wide_fault : fault_at wide 1 HeaderLine ≡ WordTooMany
+pub wide_fault : fault_at wide 1 1 ≡ WordTooMany
 unfolding wide entry_of read too_long header_from header_in circuits_from circuit_in idle_line word_number word_past numeral_in word_from word_to line_end spelt is_space is_digit seek fault_at line_fault fault_from word_fault is_sign is_mark digits_to line_start after_lines next_line
 wide_fault = refl

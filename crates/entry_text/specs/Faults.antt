@@ -42,13 +42,13 @@ line_fault s i e limit =
     (or_fault (word_number s (word_past s i e) e 65536) (fault_from s (word_past s i e) e)
     (or_fault (word_number s (word_past s (word_past s i e) e) e 65536) (fault_from s (word_past s (word_past s i e) e) e) WordTooMany))
 
--- what the first number of a line has to stay below: two bytes in the header, four of a circuit
-abbrev pub first_limit : Expected → ℕ
-first_limit HeaderLine = 65536
-first_limit CircuitLine = 4294967296
-first_limit NoMoreCircuits = 4294967296
-first_limit ShorterText = 4294967296
+-- the number of what was expected
+abbrev pub expected_number : Expected → ℕ
+expected_number HeaderLine = 1
+expected_number CircuitLine = 2
+expected_number NoMoreCircuits = 3
+expected_number ShorterText = 4
 
--- what is wrong with the line numbered l, by what was expected there
-unfoldable pub fault_at : List ℕ → ℕ → Expected → Fault
-fault_at s l expected = line_fault s (line_start s l) (line_end s (line_start s l)) (first_limit expected)
+-- what is wrong with the line numbered l: with 1 expected as `n w` or `n w grid`, of two bytes each, else as `number first last`, of four, two and two
+unfoldable pub fault_at : List ℕ → ℕ → ℕ → Fault
+fault_at s l expected = line_fault s (line_start s l) (line_end s (line_start s l)) (cond (eqb expected 1) 65536 4294967296)

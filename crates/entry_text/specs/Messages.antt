@@ -10,7 +10,7 @@ use Rattle.entry_text.specs.declared.Wrong.{Wrong}
 use Rattle.entry_text.specs.declared.faults.Fault.{Fault}
 use Rattle.entry_text.specs.declared.faults.Fault.TheVariants.{NumberMissing, Sign, Mark, NoNumber, TooLarge, WordTooMany}
 use Rattle.entry_text.specs.Entered.{entry_of}
-use Rattle.entry_text.specs.Faults.{fault_at}
+use Rattle.entry_text.specs.Faults.{expected_number, fault_at}
 
 -- a fault in words
 unfoldable pub fault_words : Fault → List ℕ
@@ -34,7 +34,7 @@ line_words l = words "line " ++ decimal l ++ words ": "
 
 -- a line that was not read: which, its fault, and what it should have been
 unfoldable pub fault_message : List ℕ → ℕ → Expected → List ℕ
-fault_message s l expected = line_words l ++ fault_words (fault_at s l expected) ++ expected_words expected
+fault_message s l expected = line_words l ++ fault_words (fault_at s l (expected_number expected)) ++ expected_words expected
 
 -- the line of a circuit for which there is no room
 unfoldable pub full_message : ℕ → List ℕ

@@ -3,7 +3,7 @@ ghost use Rattle.std.specs.Prelude.{◌≡◌, ◌≤◌, length, not};
 ghost use Rattle.entry_text.specs.Entries.{is_digit};
 ghost use Rattle.entry_text.specs.Faults.{is_sign, is_mark, digits_to, word_fault, fault_from, line_fault, fault_at};
 
-use crate::{Expected, numbering, words};
+use crate::{numbering, words};
 
 // No number where one is expected, a sign before it, a byte order mark, a word that is none, one too large, or a word too many.
 #[derive(Clone, Copy, Debug, PartialEq, Eq)]
@@ -100,15 +100,15 @@ fn line_fault(text: &[u8], i: usize, e: usize, limit: u64) -> Fault
     Fault::WordTooMany
 }
 
-// What is wrong with the line of this number, counted from 1, by what was expected there.
+// What is wrong with the line of this number, counted from 1: with 1 expected as `n w` or `n w grid`, else as `number first last`.
 #[tactic(auto, unfolding(crate::specs::Faults::fault_at))]
-pub fn fault_at(text: &[u8], line: usize, expected: Expected) -> Fault
+pub fn fault_at(text: &[u8], line: usize, expected: u32) -> Fault
     ensures { result ≡ fault_at text.now line expected }
 {
     let i = numbering::line_start(text, line);
     let e = words::line_end(text, i);
-    match expected {
-        Expected::HeaderLine => line_fault(text, i, e, 65536),
-        _ => line_fault(text, i, e, 4294967296),
+    if expected == 1 {
+        return line_fault(text, i, e, 65536);
     }
+    line_fault(text, i, e, 4294967296)
 }

@@ -3,6 +3,7 @@
 
 ghost use Rattle.std.specs.Prelude.{◌≡◌, ◌+◌, ◌/◌, ◌≤◌, length, take};
 ghost use Rattle.entry_text.specs.Entered.{Enters};
+ghost use Rattle.entry_text.specs.Faults.{expected_number};
 ghost use Rattle.entry_text.specs.Pair.{header_bytes, MadeOf};
 ghost use Rattle.entry_text.specs.inner.Told.{Reads};
 
@@ -30,10 +31,18 @@ pub struct Entry {
 // What was expected where a text is wrong: `n w` or `n w grid`, `number first last`, no circuit too many, or a text that is not too long.
 #[derive(Clone, Copy, Debug, PartialEq, Eq)]
 pub enum Expected {
-    HeaderLine,
-    CircuitLine,
-    NoMoreCircuits,
-    ShorterText,
+    HeaderLine = 1,
+    CircuitLine = 2,
+    NoMoreCircuits = 3,
+    ShorterText = 4,
+}
+
+impl From<Expected> for u32 {
+    ghost from_gives = { λ expected x. x ≡ expected_number expected };
+
+    fn from(expected: Expected) -> u32 {
+        expected as u32
+    }
 }
 
 // The first line that is wrong, counted from 1, and what was expected there.

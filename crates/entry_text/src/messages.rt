@@ -50,7 +50,7 @@ fn write_fault_line(text: &[u8], wrong: Wrong, out: &mut [u8]) -> usize
     requires { 76 ≤ length out.old }
     ensures { Wrote (fault_message text.now wrong.line wrong.expected) result out.old out.new }
 {
-    let fault = faults::fault_at(text, wrong.line, wrong.expected);
+    let fault = faults::fault_at(text, wrong.line, u32::from(wrong.expected));
     let a = write_line_number(wrong.line, out);
     let b = a + write_fault(fault, &mut out[a..]);
     b + write_expected(wrong.expected, &mut out[b..])

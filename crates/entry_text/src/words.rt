@@ -51,6 +51,8 @@ pub fn line_end(text: &[u8], start: usize) -> usize
 }
 
 // Where the first word from `start` on begins, or e.
+// Not inlined: among the loops of a large function this one keeps its counters in memory, and many spaces take half as long again.
+#[inline(never)]
 pub fn word_from(text: &[u8], start: usize, e: usize) -> usize
     requires { (start ≤ e) × (e ≤ length text.now) }
     ensures { (result ≡ word_from text.now start e) × (start ≤ result) × (result ≤ e) }
@@ -66,6 +68,8 @@ pub fn word_from(text: &[u8], start: usize, e: usize) -> usize
 }
 
 // Where the word that begins at `start` ends.
+// Not inlined, for the same reason.
+#[inline(never)]
 pub fn word_to(text: &[u8], start: usize, e: usize) -> usize
     requires { (start ≤ e) × (e ≤ length text.now) }
     ensures { (result ≡ word_to text.now start e) × (start ≤ result) × (result ≤ e) }

@@ -1,14 +1,22 @@
 // Whole files and the standard streams through lent buffers, with short and interrupted calls tried again.
 #![tactic(auto)]
 
-ghost use Rattle.std.specs.Prelude.{◌≡◌, ◌≤◌, length, IfOk};
+ghost use Rattle.std.specs.Prelude.{◌≡◌, length, IfOk};
 ghost use Rattle.std.specs.Io.{ReadsAtMost};
+ghost use Rattle.files.specs.Starts.{ReadInto};
 
 use std::fs;
 use std::io::{ErrorKind, Input, Print, Read, Write};
 use std::rt::Files;
 
 pub mod pair;
+
+// The start of a file or of standard input: the buffer that it was read into, and how many bytes were read. With the bytes alone nobody could say how many there was room for.
+#[derive(Clone, Copy, Debug, PartialEq, Eq)]
+pub struct Start<'a> {
+    pub buffer: &'a [u8],
+    pub read: usize,
+}
 
 // A proved loop has to end, and nothing says that a file does: no run uses up this number of calls.
 const TURNS: u64 = u64::MAX;
@@ -57,29 +65,37 @@ fn write_all<W: Write>(to: &mut W, buf: &[u8]) -> std::io::Result<usize>
     Ok(done)
 }
 
+// Opens a file for reading. A name that is no text names none.
+fn open_read<R: Files>(rt: &R, name: &[u8]) -> std::io::Result<R::File> {
+    match str::from_utf8(name) {
+        Ok(path) => fs::open(rt, path),
+        Err(_) => Err(ErrorKind::InvalidInput.into()),
+    }
+}
+
 // Reads the start of a file, as much as the buffer holds. What is told: how many bytes.
-pub fn read_start<R: Files>(rt: &R, name: &str, buf: &mut [u8]) -> std::io::Result<usize>
+pub fn read_start<R: Files>(rt: &R, name: &[u8], buf: &mut [u8]) -> std::io::Result<usize>
     ensures { ReadsAtMost result buf.new }
 {
-    let mut file = fs::open(rt, name)?;
+    let mut file = open_read(rt, name)?;
     read_all(&mut file, buf)
 }
 
-// Reads the start of a file, as much as the buffer holds. What is told: the bytes.
-pub fn read_file<'a, R: Files>(rt: &R, name: &str, buf: &'a mut [u8]) -> std::io::Result<&'a [u8]>
-    ensures { IfOk result (λ s. length s.now ≤ length buf.old) }
+// Reads the start of a file, as much as the buffer holds.
+pub fn read_file<'a, R: Files>(rt: &R, name: &[u8], buf: &'a mut [u8]) -> std::io::Result<Start<'a>>
+    ensures { IfOk result (ReadInto (length buf.old)) }
 {
-    let k = read_start(rt, name, buf)?;
-    Ok(&buf[..k])
+    let read = read_start(rt, name, buf)?;
+    Ok(Start { buffer: buf, read })
 }
 
-// Reads the start of standard input, as much as the buffer holds. What is told: the bytes.
-pub fn read_input<'a, R: Input>(rt: &R, buf: &'a mut [u8]) -> std::io::Result<&'a [u8]>
-    ensures { IfOk result (λ s. length s.now ≤ length buf.old) }
+// Reads the start of standard input, as much as the buffer holds.
+pub fn read_input<'a, R: Input>(rt: &R, buf: &'a mut [u8]) -> std::io::Result<Start<'a>>
+    ensures { IfOk result (ReadInto (length buf.old)) }
 {
     let mut input = rt.reader();
-    let k = read_all(&mut input, buf)?;
-    Ok(&buf[..k])
+    let read = read_all(&mut input, buf)?;
+    Ok(Start { buffer: buf, read })
 }
 
 // Writes all of the buffer to standard output. What is told: how many bytes.

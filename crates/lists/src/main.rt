@@ -25,8 +25,8 @@ fn read_and_keep<R: Files + Print>(
     assigns: &mut [u8; 16384],
     out: &mut [u8; 147536],
 ) {
-    let line = files::read_file(rt, "line.rec", line).ok();
-    let circuits = files::read_file(rt, "circuits.rec", circuits).ok();
+    let line = files::read_file(rt, b"line.rec", line).ok();
+    let circuits = files::read_file(rt, b"circuits.rec", circuits).ok();
     let kept = prints::keeping::keep_lists(line, circuits, fibres, assigns, out);
     let text = &out[..kept.text];
     let Some(long) = kept.lists else {

@@ -4,7 +4,7 @@ use mathlib.Core.Path.{◌≡◌, refl, sym, ap, subst, ◌∙◌}
 use mathlib.Core.Logic.{inl}
 use mathlib.Core.List.{List, append-nil}
 use native.Mathlib.Omega.{arith}
-use lib.ListN.{length}
+use lib.ListN.{length, get_or}
 use Rattle.basics.specs.Tools.{each}
 use Rattle.records.specs.Records.{circuits_in, record_at}
 use Rattle.records.specs.declared.Circuit.{Circuit}
@@ -43,13 +43,14 @@ module _ {n w m from many : ℕ} {s : List ℕ} {lent : Areas} (t : Trimmable n 
   held_fibre j l = ap (λ (g : Assignment). g.fibre) (assignment_read (circuit cs j) (assigned p j) (record_at lent.assigns j) (h.records j l)).1
 
   -- the chains can be made
-  pub held_unchained : Unchained n m s lent.assigns
-  held_unchained =
+  pub held_unchained : (next heads : List ℕ) → length next ≡ 2048 → length heads ≡ 4096 → ((f : ℕ) → get_or heads f 0 ≡ 0) → Unchained n m s lent.assigns next heads
+  held_unchained next heads a b z =
       record {
         line = t.line;
         few = t.few;
         file = t.file;
         listed = t.assign_room;
+        room = omega (arith, t.few);
         lies = t.lies;
         numbered = λ j l.
             let e = held_fibre j l in
@@ -57,6 +58,7 @@ module _ {n w m from many : ℕ} {s : List ℕ} {lent : Areas} (t : Trimmable n 
             let v₀ = v.0 in
             let v₁ = v.1 in
             (omega arith, omega (arith, t.fibres_few));
+        none = z;
       }
 
   -- what does not change

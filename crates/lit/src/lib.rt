@@ -144,6 +144,7 @@ pub fn trim(
         heads: [0; 4096],
         next: [0; 2048],
     };
-    chains::by_fibre(circuits, assigns, job.links, job.circuits, &mut chains);
+    let Chains { heads, next } = &mut chains;
+    chains::by_fibre(circuits, assigns, job.links, job.circuits, next, heads);
     trim_all(job, many, circuits, work, &chains, fibres, assigns)
 }

@@ -207,3 +207,12 @@ module _ (who : ℕ → Bool) (f : ℕ → ReportLine) (P : List ℕ) (t k j : �
         noted = g.noted ∙ sym next₁;
         begun = g.begun ∙ ap (λ a. report_bytes (map f a) ++ drop (12 * k) report₀) (sym next₁);
       }
+
+-- in both cases
+pub noting_more : (who : ℕ → Bool) (f : ℕ → ReportLine) (P : List ℕ) (t k r j : ℕ) (turns turns' report₀ report report' : List ℕ)
+    → t < length P → j ≡ get_or P t 0 → 2 * k + 2 ≤ length turns → r ≡ cond (who j) (k + 1) k → turns' ≡ cond (who j) (set_cell turns k j) turns → report' ≡ cond (who j) (put_line report k (line_bytes (f j))) report
+    → Noting who f P t k turns report₀ report → Noting who f P (t + 1) r turns' report₀ report'
+noting_more who f P t k r j turns turns' report₀ report report' h e room is-r is-turns is-report g =
+    on (who j)
+    (λ yes. rw (is-r, is-turns, is-report, yes) (noting_line who f P t k j turns report₀ report h e g yes room))
+    (λ no. rw (is-r, is-turns, is-report, no) (noting_kept who f P t k j turns report₀ report h e g no))

@@ -5,10 +5,11 @@ use mathlib.Core.Bool.{Bool, cond, true, false, not, ◌&&◌}
 use mathlib.Core.Logic.{◌≢◌, inl, inr, ⊎_elim}
 use mathlib.Core.List.{List, [], ◌∷◌, ◌++◌, map}
 use native.Mathlib.Omega.{arith}
+use borrow.Rule.Slice.PartMut.{mid_of, post_of, put_mid}
 use borrow.Author.Tests.{eq-eqb, leb-true, ne_eqb, not-false}
 use lib.Dec.{eqb, leb}
-use lib.ListN.{drop, drop_of_length-le, get_or, length, length-map, length-replicate, replicate, set, take}
-use lib.Seq.{ext_get_or, get_or-set_other, set-get_or}
+use lib.ListN.{drop, drop_of_length-le, get_or, length, length-append, length-map, length-replicate, replicate, set, take}
+use lib.Seq.{ext_get_or, get_or-set_other, set-get_or, take_at}
 use Rattle.basics.proofs.Bools.{and_l, and_r, by_eq, clash, on}
 use Rattle.basics.proofs.Tables.{zeros_at}
 use Rattle.records.specs.Bytes.{cells_of}
@@ -239,6 +240,14 @@ turns_by_number n w m many s fibres assigns P reg long o = ordered_turns m (circ
 pub kept_given : (many m j : ℕ) (assigns flags flags' : List ℕ) → flags' ≡ set flags j 1 → Given many assigns j → GivenKept many m assigns flags → GivenKept many m assigns flags'
 kept_given many m j assigns flags flags' e here g i l f =
     by_eq i j (λ q. subst (Given many assigns) (sym q) here) (λ q. g i l (λ z. f (ap (λ (x : List ℕ). get_or x i 0) e ∙ get_or-set_other flags j i 1 0 q ∙ z)))
+
+-- LENT PARTS. One from byte 0 to e comes back as it was left
+pub front_back : (e : ℕ) (xs ys : List ℕ) → length ys ≡ e → mid_of 0 (e - 0) (put_mid 0 (e - 0) xs ys) ≡ ys
+front_back e xs ys l = take_at ys (post_of 0 (e - 0) xs) (e - 0) (omega arith)
+
+-- and there is room for it again
+pub front_room : (e : ℕ) (xs ys : List ℕ) → length ys ≡ e → e ≤ length (put_mid 0 (e - 0) xs ys)
+front_room e xs ys l = subst (λ z. e ≤ z) (sym (length-append ys (post_of 0 (e - 0) xs))) (omega arith)
 
 -- THE FIRST PASS IS DONE, in the order P
 pub sifted : (n w m many : ℕ) (s fibres assigns P flags report report' turns ends heads next : List ℕ) (k : ℕ)

@@ -1,4 +1,4 @@
--- Circuits chosen by their places: those that pass a test, and their records. Assumes nothing.
+-- Circuits chosen by their places: what a caller knows of the whole file holds of the part; and those that pass a test, with their records. Assumes nothing.
 use Prim.Native.Nat.{ℕ, ◌+◌, ◌<◌}
 use lib.ListN.{get_or, length, length-map}
 use mathlib.Core.Bool.{Bool, true}
@@ -10,10 +10,27 @@ use Rattle.basics.specs.Tools.{count}
 use Rattle.basics.proofs.Counts.{count_rank}
 use Rattle.records.specs.Records.{record_at}
 use Rattle.records.specs.declared.Circuit.{Circuit}
-use Rattle.method.specs.Line.{circuit}
+use Rattle.method.specs.Line.{Distinct, Lies, circuit}
 use Rattle.places.specs.Parts.{picked, those}
-use Rattle.places.proofs.Parts.{length_picked, those_are, those_at}
-use Rattle.parts.specs.Part.{PlacesOf, Scattered, chosen}
+use Rattle.places.proofs.Parts.{get_d_map, length_picked, those_are, those_at}
+use Rattle.parts.specs.Part.{Once, PlacesOf, Scattered, chosen}
+
+module _ (cs : List Circuit) (js : List ℕ) (there : PlacesOf (length cs) js) where
+  -- they lie on the line
+  pub chosen_lies : (n : ℕ) → Lies n cs → Lies n (chosen cs js)
+  unfolding circuit
+  chosen_lies n lies t l =
+      let l' = length-map js (circuit cs) in
+      rw (get_d_map (circuit cs) js t (omega arith)) (lies (get_or js t 0) (there t (omega arith)))
+
+  -- places that differ have numbers that differ
+  pub chosen_distinct : Distinct cs → Once (length js) js → Distinct (chosen cs js)
+  unfolding circuit
+  chosen_distinct distinct once t r lt lr e =
+      let l = length-map js (circuit cs) in
+      once t r (omega arith) (omega arith)
+      (distinct (get_or js t 0) (get_or js r 0) (there t (omega arith)) (there r (omega arith))
+      (ap (λ (c : Circuit). c.number) (sym (get_d_map (circuit cs) js t (omega arith))) ∙ e ∙ ap (λ (c : Circuit). c.number) (get_d_map (circuit cs) js r (omega arith))))
 
 -- THOSE THAT PASS A TEST, by their places in the order of the file
 module _ (p : ℕ → Bool) (cs : List Circuit) where

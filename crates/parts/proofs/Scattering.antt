@@ -2,7 +2,7 @@
 use Prim.Native.Nat.{ℕ, ◌+◌, ◌*◌, ◌<◌, ◌≤◌}
 use lib.ListN.{get_or, length}
 use mathlib.Core.List.{List}
-use mathlib.Core.Path.{◌≡◌, ap, ◌∙◌, sym}
+use mathlib.Core.Path.{◌≡◌, refl, ap, ◌∙◌, sym}
 use native.Mathlib.Omega.{arith}
 use Rattle.basics.proofs.Bools.{by_eq}
 use Rattle.records.specs.Records.{put_record, record_at}
@@ -10,6 +10,10 @@ use Rattle.records.proofs.RecordLaws.{length_put_record, record_other, record_sa
 use Rattle.parts.specs.Part.{Once, Scattered}
 
 module _ (b : ℕ) (js : List ℕ) (f : ℕ → List ℕ) where
+  -- none is put yet
+  pub scattered_none : (s : List ℕ) → Scattered b 0 js f s s
+  scattered_none s = record { sized = refl; put = λ t l. absurd (omega arith); kept = λ i n. refl }
+
   -- one more
   pub scattered_more : (k t i : ℕ) (s s₁ s₂ r : List ℕ) → Once k js → t < k → i ≡ get_or js t 0 → 8 * (b + get_or js t 0) + 8 ≤ length s → length (f t) ≡ 8
       → Scattered b t js f s s₁ → r ≡ f t → s₂ ≡ put_record s₁ (b + i) r → Scattered b (t + 1) js f s s₂

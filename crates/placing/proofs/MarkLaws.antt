@@ -40,10 +40,14 @@ clear_other busy v u h = ap not (get_or-set_other busy v u true false h)
 
 module _ (rs : List Rider) (ends assigns next : List ℕ) (c : Circuit) (head q : ℕ) (h : Chained rs ends assigns next head q) where
   -- what is shown of a rider of the fibre
-  shown_is : (d : ℕ) → d < length rs → (rider rs d).fibre ≡ q
+  pub shown_is : (d : ℕ) → d < length rs → (rider rs d).fibre ≡ q
       → shown (cell ends (2 * d)) (cell ends (2 * d + 1)) (assignment_of (record_at assigns d)).wavelength c ≡ cond (overlap (rider rs d).who c) (Some (rider rs d).wavelength) None
   unfolding shown overlap
   shown_is d l e = rw (h.first_is d l e, h.last_is d l e, h.wave_is d l e) refl
+
+  -- it fits the table
+  pub shown_fits : (d x : ℕ) → d < length rs → (rider rs d).fibre ≡ q → x ≡ cond (overlap (rider rs d).who c) (rider rs d).wavelength 0 → x < 96
+  shown_fits d x l e s = on (overlap (rider rs d).who c) (λ o. let z = s ∙ ap (λ b. cond b (rider rs d).wavelength 0) o in omega (arith, h.wave_fits d l e)) (λ o. let z = s ∙ ap (λ b. cond b (rider rs d).wavelength 0) o in omega arith)
 
   -- the start
   pub mark_start : (busy : List Bool) → busy ≡ replicate 96 false → Marking rs next c q head busy

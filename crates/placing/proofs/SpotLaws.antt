@@ -1,13 +1,15 @@
 -- The search for the lowest-numbered fibre that has a place for a circuit. Assumes nothing.
-use Prim.Native.Nat.{◌+◌, ◌-◌, ◌<◌, ◌≤◌, suc, ℕ}
+use Prim.Native.Nat.{◌+◌, ◌*◌, ◌-◌, ◌<◌, ◌≤◌, suc, ℕ}
 use borrow.Author.Rules.{rules}
 use borrow.Author.Tests.{eq-eqb, le-leb, leb-false, lt-leb, ltb-false, ltb-true, ne_eqb}
 use lib.Dec.{leb, ltb}
-use lib.ListN.{get_or, length}
-use mathlib.Core.Bool.{Bool, ◌&&◌, cond, false, true}
+use lib.ListN.{get_or, length, set}
+use lib.Seq.{get_or-set_other, get_or-set_same}
+use mathlib.Core.Bool.{Bool, ◌&&◌, cond, false, not, true}
 use mathlib.Core.List.{List}
+use mathlib.Core.Logic.{◌≢◌}
 use mathlib.Core.Path.{◌∙◌, ◌≡◌, ap, refl, sym}
-use native.Mathlib.Nat.{zero-add}
+use native.Mathlib.Nat.{one-mul, zero-add, zero-mul}
 use native.Mathlib.Omega.{arith}
 use Rattle.std.specs.Prelude.{None, Option, Some, is_some}
 use Rattle.std.proofs.lemmas.Option.{cond_some, none-some}
@@ -85,6 +87,40 @@ span_is : (many : ℕ) (firsts lasts : List ℕ) (c : Circuit) (q : ℕ) → 1 �
 unfolding spans
 span_is many firsts lasts c q a b = rw (span_first many firsts lasts q a b, span_last many firsts lasts q a b)
 
+-- TESTS AS NUMBERS, 1 for true and 0 for false: a product of two
+pub ones_fit : (a b : ℕ) → a ≤ 1 → b ≤ 1 → a * b ≤ 1
+ones_fit a b l r =
+    by_eq a 0
+    (λ e. let z = ap (λ (x : ℕ). x * b) e ∙ zero-mul b in omega arith)
+    (λ e. let one : a ≡ 1 = omega arith in let z = ap (λ (x : ℕ). x * b) one ∙ one-mul b in omega arith)
+
+-- says that both hold
+pub ones_and : (a b : Bool) (x y z : ℕ) → x ≡ cond a 1 0 → y ≡ cond b 1 0 → z ≡ x * y → z ≡ cond (a && b) 1 0
+ones_and true b x y z e f g = g ∙ ap (λ (v : ℕ). v * y) e ∙ one-mul y ∙ f
+ones_and false b x y z e f g = g ∙ ap (λ (v : ℕ). v * y) e ∙ zero-mul y
+
+-- what is left to 1 says that it does not hold
+pub ones_not : (a : Bool) (x : ℕ) → x ≡ cond a 1 0 → 1 - x ≡ cond (not a) 1 0
+ones_not true x e = ap (λ (v : ℕ). 1 - v) e
+ones_not false x e = ap (λ (v : ℕ). 1 - v) e
+
+-- a test that is not 0 holds
+pub ones_hit : (a : Bool) (x : ℕ) → x ≡ cond a 1 0 → x ≢ 0 → a ≡ true
+ones_hit true x e h = refl
+ones_hit false x e h = absurd (h e)
+
+-- one that is 0 does not
+pub ones_miss : (a : Bool) (x : ℕ) → x ≡ cond a 1 0 → x ≡ 0 → a ≡ false
+ones_miss true x e h = absurd (omega arith)
+ones_miss false x e h = refl
+
+-- a column that is filled one entry further
+pub column_more : (F : List ℕ) (i v : ℕ) (f : ℕ → ℕ) → i < length F → v ≡ f i → ((d : ℕ) → d < i → get_or F d 0 ≡ f d) → (d : ℕ) → d < i + 1 → get_or (set F i v) d 0 ≡ f d
+column_more F i v f l e h d b =
+    by_eq d i
+    (λ q. ap (λ (x : ℕ). get_or (set F i v) x 0) q ∙ get_or-set_same F i v 0 l ∙ e ∙ ap f (sym q))
+    (λ q. get_or-set_other F i d v 0 q ∙ h d (omega arith))
+
 -- THE NEXT ENTRY that passes
 pub next_some : (p : ℕ → Bool) (many from i : ℕ) → from ≤ many → Some i ≡ before many (seek p from (many - from)) → (seek p from (many - from) ≡ i) × (from ≤ i) × (i < many)
 unfolding before
@@ -136,7 +172,7 @@ module _ (fs : List Fibre) (lo hi : ℕ) (rs : List Rider) (c : Circuit) where
   no_offer q s = rw s refl
 
   -- where none is offered there is no place
-  offer_no : (q : ℕ) → Offers fs lo hi rs c q None → has_place fs lo hi rs c q ≡ false
+  pub offer_no : (q : ℕ) → Offers fs lo hi rs c q None → has_place fs lo hi rs c q ≡ false
   offer_no q o =
       on (has_place fs lo hi rs c q)
       (λ t. absurd (none-some (free_wavelength lo hi rs c q) (o ∙ ap (λ b. cond b (Some (free_wavelength lo hi rs c q)) None) t)))

@@ -1,3 +1,4 @@
+pub mod Starts
 pub mod Holding
 pub mod Printing
 pub mod TypedLaws

@@ -14,6 +14,8 @@ use Rattle.checker.specs.Checked.{checked}
 use Rattle.checker.specs.declared.Finding.{Finding}
 use Rattle.checker.specs.declared.Finding.TheVariants.{Yes, No}
 use Rattle.sheet_text.specs.Text.{yes_line, no_line, refusal_line}
+use Rattle.files.specs.declared.Start.{Start}
+use Rattle.prints.specs.Reads.{Into, SheetRead}
 use Rattle.prints.specs.Sheets.{unread}
 
 -- the one line of a finding or of a refusal
@@ -48,3 +50,9 @@ pub record PrintsYes (line circuits fibres assigns : List ℕ) : Type 0 where
   pub said : Line
   pub is_line : line_in line ≡ Some said
   pub prints : check_printed (Some line) (Some circuits) (Some fibres) (Some assigns) ≡ plan_yes said (take 16392 circuits)
+
+-- what the check program read: two files as the sheet program reads them, and a record more of each list than it may have, which tells that it is too long
+pub record CheckRead (line circuits fibres assigns : Option Start) : Type 0 where
+  pub sheet_read : SheetRead line circuits
+  pub fibres_read : Into 32776 fibres
+  pub assigns_read : Into 16392 assigns

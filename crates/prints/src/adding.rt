@@ -3,10 +3,11 @@
 ghost use Rattle.std.specs.Prelude.{◌≡◌, ◌+◌, ◌≤◌, length, take};
 ghost use Rattle.std.specs.Option.{option_copied};
 ghost use Rattle.prints.specs.Adding.{AddRead, add_printed, all_read, grown, grown_of, grown_text, Grows};
-ghost use Rattle.prints.specs.Reads.{file_read};
-ghost use Rattle.prints.specs.inner.Lent.{Appendable, Appended, Growable, Laid, old_read, records_read};
+ghost use Rattle.prints.specs.Reads.{file_read, start_read};
+ghost use Rattle.prints.specs.inner.Lent.{Appendable, Appended, FolderRead, Growable, Laid, old_read, records_read};
 
 use adder::Named;
+use files::Start;
 use records::Line;
 
 // How many bytes circuits.rec, fibres.rec and assign.rec have. A plan that is kept has two files, and clauses name them: one type for both would be no plainer.
@@ -117,7 +118,7 @@ fn grow_circuits(
 // Which files are kept and what is printed, at the start of four buffers, from the bytes of the five files as far as they can be read. Three of them grow in the
 // buffers where they were read, so of these it is told how many bytes were.
 #[tactic(auto, unfolding(crate::specs::Adding::all_read, crate::specs::Adding::grown, crate::specs::Adding::add_printed))]
-pub fn grow_files(
+fn grow_bytes(
     line: Option<&[u8]>,
     got_circuits: Option<usize>,
     circuits: &mut [u8],
@@ -128,7 +129,7 @@ pub fn grow_files(
     assigns: &mut [u8],
     out: &mut [u8],
 ) -> Grown
-    requires { AddRead got_circuits (option_copied new) got_fibres got_assigns circuits.old fibres.old assigns.old × (213072 ≤ length out.old) }
+    requires { FolderRead got_circuits (option_copied new) got_fibres got_assigns circuits.old fibres.old assigns.old × (213072 ≤ length out.old) }
     ensures { Grows (grown (all_read (option_copied line.entry) (file_read got_circuits circuits.old) (option_copied new.entry) (file_read got_fibres fibres.old) (file_read got_assigns assigns.old))) (add_printed (all_read (option_copied line.entry) (file_read got_circuits circuits.old) (option_copied new.entry) (file_read got_fibres fibres.old) (file_read got_assigns assigns.old))) result circuits.old circuits.new fibres.old fibres.new assigns.old assigns.new out.old out.new }
 {
     let (Some(line), Some(c), Some(new), Some(f), Some(a)) = (
@@ -144,4 +145,34 @@ pub fn grow_files(
         };
     };
     grow_circuits(line, c, circuits, new, f, fibres, a, assigns, out)
+}
+
+// Which files are kept and what is printed, at the start of four buffers, from the five files as far as they can be read. Three of them grow in the buffers where they
+// were read, so of these it is told how many bytes were.
+#[tactic(auto, using(crate::proofs::Starts::held, crate::proofs::Starts::folder_read))]
+pub fn grow_files(
+    line: Option<Start>,
+    got_circuits: Option<usize>,
+    circuits: &mut [u8],
+    new: Option<Start>,
+    got_fibres: Option<usize>,
+    fibres: &mut [u8],
+    got_assigns: Option<usize>,
+    assigns: &mut [u8],
+    out: &mut [u8],
+) -> Grown
+    requires { AddRead line got_circuits new got_fibres got_assigns circuits.old fibres.old assigns.old × (213072 ≤ length out.old) }
+    ensures { Grows (grown (all_read (start_read line.entry) (file_read got_circuits circuits.old) (start_read new.entry) (file_read got_fibres fibres.old) (file_read got_assigns assigns.old))) (add_printed (all_read (start_read line.entry) (file_read got_circuits circuits.old) (start_read new.entry) (file_read got_fibres fibres.old) (file_read got_assigns assigns.old))) result circuits.old circuits.new fibres.old fibres.new assigns.old assigns.new out.old out.new }
+{
+    grow_bytes(
+        crate::bytes_of(line),
+        got_circuits,
+        circuits,
+        crate::bytes_of(new),
+        got_fibres,
+        fibres,
+        got_assigns,
+        assigns,
+        out,
+    )
 }

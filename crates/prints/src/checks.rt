@@ -3,10 +3,11 @@
 ghost use Rattle.std.specs.Prelude.{◌≤◌, length};
 ghost use Rattle.std.specs.Option.{option_copied};
 ghost use Rattle.text.specs.Wrote.{Wrote};
-ghost use Rattle.prints.specs.Checks.{finding_text, check_of, check_printed};
-ghost use Rattle.prints.specs.Reads.{AtMost};
+ghost use Rattle.prints.specs.Checks.{CheckRead, finding_text, check_of, check_printed};
+ghost use Rattle.prints.specs.Reads.{AtMost, start_read};
 
 use checker::Finding;
+use files::Start;
 use records::Line;
 use refusals::Refusal;
 
@@ -18,7 +19,7 @@ fn write_finding(f: Result<Finding, Refusal>, out: &mut [u8]) -> usize
     match f {
         Ok(Finding::Yes { length, floor }) => sheet_text::write_yes(length, floor, out),
         Ok(Finding::No { rule, place }) => sheet_text::write_no(rule, place, out),
-        Err(refusal) => sheet_text::write_refusal(refusal, out),
+        Err(refusal) => sheet_text::write_refused(refusal, out),
     }
 }
 
@@ -34,7 +35,7 @@ fn write_check(line: Line, circuits: &[u8], fibres: &[u8], assigns: &[u8], out: 
 
 // What the check program prints, at the start of a buffer, from the bytes of its four files as far as they can be read. What is told: its length.
 #[tactic(auto, using(crate::proofs::CheckLaws::line_checked), unfolding(crate::specs::Checks::check_printed))]
-pub fn print_check(
+fn print_bytes(
     line: Option<&[u8]>,
     circuits: Option<&[u8]>,
     fibres: Option<&[u8]>,
@@ -53,4 +54,25 @@ pub fn print_check(
         return crate::write_unread(out);
     };
     write_check(line, circuits, fibres, assigns, out)
+}
+
+// What the check program prints, at the start of a buffer, from its four files as far as they can be read. What is told: its length.
+#[tactic(auto, using(crate::proofs::Starts::held, crate::proofs::Starts::at_most))]
+pub fn print_check(
+    line: Option<Start>,
+    circuits: Option<Start>,
+    fibres: Option<Start>,
+    assigns: Option<Start>,
+    out: &mut [u8],
+) -> usize
+    requires { CheckRead line circuits fibres assigns × (80 ≤ length out.old) }
+    ensures { Wrote (check_printed (start_read line.entry) (start_read circuits.entry) (start_read fibres.entry) (start_read assigns.entry)) result out.old out.new }
+{
+    print_bytes(
+        crate::bytes_of(line),
+        crate::bytes_of(circuits),
+        crate::bytes_of(fibres),
+        crate::bytes_of(assigns),
+        out,
+    )
 }

@@ -3,10 +3,11 @@
 ghost use Rattle.std.specs.Prelude.{◌≤◌, length};
 ghost use Rattle.std.specs.Option.{option_copied};
 ghost use Rattle.prints.specs.Keeping.{Keeps, kept, lists_of};
-ghost use Rattle.prints.specs.Reads.{AtMost};
+ghost use Rattle.prints.specs.Reads.{AtMost, SheetRead, start_read};
 ghost use Rattle.prints.specs.Sheets.{printed, sheet_of};
 ghost use Rattle.prints.specs.inner.Lent.{Ample};
 
+use files::Start;
 use records::Line;
 
 // How many bytes fibres.rec and assign.rec have.
@@ -65,7 +66,7 @@ pub fn keep_plan(
 
 // Which lists are kept and what is printed, at the start of three buffers, from the bytes of its two files as far as they can be read.
 #[tactic(auto, using(crate::proofs::Printing::line_printed, crate::proofs::KeepingLaws::line_kept), unfolding(crate::specs::Sheets::printed, crate::specs::Keeping::kept))]
-pub fn keep_lists(
+fn keep_bytes(
     line: Option<&[u8]>,
     circuits: Option<&[u8]>,
     fibres: &mut [u8],
@@ -82,4 +83,25 @@ pub fn keep_lists(
         };
     };
     keep_plan(line, circuits, fibres, assigns, out)
+}
+
+// Which lists are kept and what is printed, at the start of three buffers, from its two files as far as they can be read.
+#[tactic(auto, using(crate::proofs::Starts::held, crate::proofs::Starts::at_most))]
+pub fn keep_lists(
+    line: Option<Start>,
+    circuits: Option<Start>,
+    fibres: &mut [u8],
+    assigns: &mut [u8],
+    out: &mut [u8],
+) -> Kept
+    requires { SheetRead line circuits × ((16384 ≤ length fibres.old) × (16384 ≤ length assigns.old) × (147536 ≤ length out.old)) }
+    ensures { Keeps (kept (start_read line.entry) (start_read circuits.entry)) (printed (start_read line.entry) (start_read circuits.entry)) result fibres.old fibres.new assigns.old assigns.new out.old out.new }
+{
+    keep_bytes(
+        crate::bytes_of(line),
+        crate::bytes_of(circuits),
+        fibres,
+        assigns,
+        out,
+    )
 }

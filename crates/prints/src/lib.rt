@@ -2,13 +2,14 @@
 // The lent areas go one by one: a struct that holds them by reference makes clauses say `.entry.` of each field.
 #![tactic(auto)]
 
-ghost use Rattle.std.specs.Prelude.{◌≤◌, length};
+ghost use Rattle.std.specs.Prelude.{◌≡◌, ◌≤◌, length, IfSome};
 ghost use Rattle.std.specs.Option.{option_copied};
 ghost use Rattle.text.specs.Wrote.{Wrote};
-ghost use Rattle.prints.specs.Reads.{AtMost};
+ghost use Rattle.prints.specs.Reads.{AtMost, SheetRead, start_read};
 ghost use Rattle.prints.specs.Sheets.{sheet_of, unread, printed};
 ghost use Rattle.prints.specs.inner.Lent.{answer_text, Held};
 
+use files::Start;
 use records::Line;
 use refusals::{Reason, Refusal};
 use register::Counts;
@@ -33,7 +34,7 @@ fn write_answer(
 {
     match answer {
         Ok(c) => sheet_text::write_sheet(grid, c, m, fibres, assigns, out),
-        Err(refusal) => sheet_text::write_refusal(refusal, out),
+        Err(refusal) => sheet_text::write_refused(refusal, out),
     }
 }
 
@@ -52,12 +53,23 @@ fn write_unread(out: &mut [u8]) -> usize
     requires { 80 ≤ length out.old }
     ensures { Wrote unread result out.old out.new }
 {
-    sheet_text::write_refusal(Refusal::at_large(Reason::Unread), out)
+    sheet_text::write_refused(Refusal::at_large(Reason::Unread), out)
+}
+
+// The bytes of a file, as far as it can be read.
+fn bytes_of<'a>(got: Option<Start<'a>>) -> Option<&'a [u8]>
+    requires { IfSome got (λ s. s.read ≤ length s.buffer.now) }
+    ensures { option_copied result ≡ start_read got.entry }
+{
+    match got {
+        Some(start) => Some(&start.buffer[..start.read]),
+        None => None,
+    }
 }
 
 // What the sheet program prints, at the start of a buffer, from the bytes of its two files as far as they can be read. What is told: its length.
 #[tactic(auto, using(crate::proofs::Printing::line_printed), unfolding(crate::specs::Sheets::printed))]
-pub fn print_sheet(line: Option<&[u8]>, circuits: Option<&[u8]>, out: &mut [u8]) -> usize
+fn print_bytes(line: Option<&[u8]>, circuits: Option<&[u8]>, out: &mut [u8]) -> usize
     requires { AtMost 16392 (option_copied circuits) × (147536 ≤ length out.old) }
     ensures { Wrote (printed (option_copied line.entry) (option_copied circuits.entry)) result out.old out.new }
 {
@@ -65,4 +77,13 @@ pub fn print_sheet(line: Option<&[u8]>, circuits: Option<&[u8]>, out: &mut [u8])
         return write_unread(out);
     };
     write_sheet(line, circuits, out)
+}
+
+// What the sheet program prints, at the start of a buffer, from its two files as far as they can be read. What is told: its length.
+#[tactic(auto, using(crate::proofs::Starts::held, crate::proofs::Starts::at_most))]
+pub fn print_sheet(line: Option<Start>, circuits: Option<Start>, out: &mut [u8]) -> usize
+    requires { SheetRead line circuits × (147536 ≤ length out.old) }
+    ensures { Wrote (printed (start_read line.entry) (start_read circuits.entry)) result out.old out.new }
+{
+    print_bytes(bytes_of(line), bytes_of(circuits), out)
 }

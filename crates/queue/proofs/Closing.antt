@@ -99,6 +99,10 @@ closing_turn m p r a b d L C C₁ C₂ C₃ h nz ea eb ed e₁ e₂ e₃ c =
           rw e (g.0 ∙ o.0, g.1 ∙ o.1, g.2 ∙ o.2);
     }
 
+-- at the end
+pub closing_done : (m to p r : ℕ) (L C : List ℕ) → p ≡ to → Closing m L C p r → ClosedUp m to L C r
+closing_done m to p r L C e c = record { many = c.rank ∙ ap (count (waits_in L)) e; moved = λ x l u. c.moved x (omega arith) u }
+
 -- where place y of the list closed up comes from
 pub from_place : (m to r y : ℕ) (L L' : List ℕ) → ClosedUp m to L L' r → y < r → (p : ℕ) × (p < to) × (waits_in L p ≡ true) × (count (waits_in L) p ≡ y) × Alike m L' y L p
 from_place m to r y L L' c h =

@@ -9,7 +9,7 @@ use crate::numbers::{read16, read32, write16, write32};
 
 pub mod cells;
 pub mod chains;
-mod numbers;
+pub mod numbers;
 
 // A line: how many links, how many wavelengths a fibre carries, and the number of their grid.
 #[derive(Clone, Copy, Debug, PartialEq, Eq)]

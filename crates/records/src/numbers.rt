@@ -20,7 +20,7 @@ pub fn read32(bytes: &[u8], k: usize) -> u32
 }
 
 // The 2-byte number at byte k becomes v.
-pub fn write16(bytes: &mut [u8], k: usize, v: u16)
+pub(crate) fn write16(bytes: &mut [u8], k: usize, v: u16)
     requires { k + 1 < length bytes.old }
     ensures { bytes.new ≡ set16 bytes.old k v }
 {
@@ -30,7 +30,7 @@ pub fn write16(bytes: &mut [u8], k: usize, v: u16)
 }
 
 // The 4-byte number at byte k becomes v.
-pub fn write32(bytes: &mut [u8], k: usize, v: u32)
+pub(crate) fn write32(bytes: &mut [u8], k: usize, v: u32)
     requires { k + 3 < length bytes.old }
     ensures { bytes.new ≡ set32 bytes.old k v }
 {

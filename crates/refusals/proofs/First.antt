@@ -55,6 +55,10 @@ given_later row rows r e g = record {
     before zero h = e
     before (suc i) h = g.first i (omega arith)
 
+-- a refusal that is told is told whole
+pub refused_same : {B : Type 0} (r q : Refusal) → ◌≡◌ {A = Result B Refusal} (Err r) (Err q) → r ≡ q
+refused_same r q e = cc
+
 -- an answer that refuses is none that passed
 pub refused_not_checked : {A B : Type 0} (r : Refusal) (x : B) → ◌≡◌ {A = Result B Refusal} (Err r) (Ok x) → A
 refused_not_checked r x e = cc

@@ -78,7 +78,7 @@ pub passed6 : (n : ℕ) (s : List ℕ) (m : ℕ) → (row6 n s m) ≡ none → (
     → (1 ≤ (circuit_of (record_at s i)).first) × ((circuit_of (record_at s i)).first ≤ (circuit_of (record_at s i)).last) × ((circuit_of (record_at s i)).last ≤ n)
 passed6 n s m e i h = good_ends n (circuit_of (record_at s i)) (record_none (λ i. bad_ends n (circuit_of (record_at s i))) m (wherever_none WrongEnd (λ x. wrong_end n (circuit_of (record_at s x))) _ e) i h)
 
--- a record that does not repeat has another reason than each before it
+-- a record that does not repeat has another number than each before it
 pub not_before : (s : List ℕ) (j : ℕ) → repeats s j ≡ false → (i : ℕ) → i < j → number_in s i ≢ number_in s j
 unfolding repeats
 not_before s j e i h = eqb-false (number_in s i) (number_in s j) (any_false (has_number s (number_in s j)) j e i h)

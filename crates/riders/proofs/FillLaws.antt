@@ -186,12 +186,16 @@ module _ (n : ℕ) (C : Columns) (index : List ℕ) (room : cells_for n (rows C)
   roomy : cells_for n (rows C) ≤ length begun
   roomy = omega (arith, length-set index 0 (n + 1))
 
-  -- before link 1 no row is listed: a circuit on the line begins at link 1 or after it
-  pub loop_near : (S : Shortlist) → S.many ≡ 0 → Lies n (rows C) → Near C 1 (near_to 1) S
+  -- a circuit on the line begins at link 1 or after it
+  pub first_pos : Lies n (rows C) → (p : ℕ) → p < C.many → 1 ≤ get_or C.firsts p 0
   unfolding circuit row
-  loop_near S z lies =
-      near_none C S z
-      (λ p h. let e = ap (λ (c : Circuit). c.first) (rows_at C p h) in omega (arith, (lies p (omega (arith, length_rows C))).0))
+  first_pos lies p h =
+      let e = ap (λ (c : Circuit). c.first) (rows_at C p h) in
+      omega (arith, (lies p (omega (arith, length_rows C))).0)
+
+  -- before link 1 no row is listed
+  pub loop_near : (S : Shortlist) → S.many ≡ 0 → Lies n (rows C) → Near C 1 (near_to 1) S
+  loop_near S z lies = near_none C S z (first_pos lies)
 
   -- and no link is in
   pub loop_start : Filled n (rows C) begun 1 (n + 1) begun
@@ -211,9 +215,13 @@ module _ (n : ℕ) (C : Columns) (index : List ℕ) (room : cells_for n (rows C)
     link_room = omega (arith, same_load, f.next, f.long, roomy, start_in n (rows C) i pos high)
 
     module _ (end : ℕ) (cells' : List ℕ) (t : Stretched (listed i C S) (number_in C S) S.many at cells end cells') where
-      -- they end within the index, at a place that a cell can hold
-      pub link_end : n ≤ 512 → end ≤ 1049089
-      link_end short = omega (arith, same_load, f.next, t.next, start_in n (rows C) i pos high, cells_few n (rows C) (omega (arith, length_rows C, C.few)) short)
+      -- they end within the index
+      pub link_end : end ≤ cells_for n (rows C)
+      link_end = omega (arith, same_load, f.next, t.next, start_in n (rows C) i pos high)
+
+      -- at a place that a cell can hold
+      pub link_fits : n ≤ 512 → end ≤ 1049089
+      link_fits short = omega (arith, link_end, cells_few n (rows C) (omega (arith, length_rows C, C.few)) short)
 
       -- there is a cell for the next start
       pub link_cell : i < length cells'

@@ -104,15 +104,15 @@ module _ (test : ℕ → Bool) (number : ℕ → ℕ) (p at : ℕ) (before : Lis
       }
 
   -- there is room for one that passes
-  stretched_room : (k : ℕ) → at + count test k ≤ length before → p < k → test p ≡ true → end < length cells
-  stretched_room k h l t = omega (arith, s.next, s.long, count_rank test p k l t)
+  pub stretched_room : (k room : ℕ) → at + count test k ≤ room → p < k → test p ≡ true → end < room
+  stretched_room k room h l t = omega (arith, s.next, count_rank test p k l t)
 
 -- there is room for a row of a shortlist that uses the link
 pub row_room : (C : Columns) (S : Shortlist) (i q at : ℕ) (before : List ℕ) (end : ℕ) (cells : List ℕ) → Stretched (listed i C S) (number_in C S) q at before end cells
     → at + count (listed i C S) S.many ≤ length before → q < S.many → (p : ℕ) → p ≡ get_or S.places q 0 → meets i i C p ≡ true → end < length cells
 unfolding listed
 row_room C S i q at before end cells s h l p e t =
-    stretched_room (listed i C S) (number_in C S) q at before end cells s S.many h l (ap (meets i i C) (sym e) ∙ t)
+    stretched_room (listed i C S) (number_in C S) q at before end cells s S.many (length cells) (omega (arith, s.long)) l (ap (meets i i C) (sym e) ∙ t)
 
 -- SHORTLISTS. A row that uses one of some links uses one of more links
 pub meets_more : (a e a' e' : ℕ) (C : Columns) (p : ℕ) → a ≤ a' → e' ≤ e → meets a' e' C p ≡ true → meets a e C p ≡ true

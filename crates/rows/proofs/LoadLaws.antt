@@ -1,5 +1,5 @@
 -- Loads are at most the number of circuits; from loads to c(i) and M. Assumes nothing.
-use Rattle.std.proofs.Common.{◌≡◌, ℕ, ◌≤◌, List, length, ap, ◌∙◌, ⊎_elim, arith}
+use Rattle.std.proofs.Common.{◌≡◌, ℕ, ◌/◌, ◌<◌, ◌≤◌, List, length, ap, ◌∙◌, ⊎_elim, div-le_self, arith, w16, Fits}
 use Rattle.basics.specs.Tools.{each, top}
 use Rattle.basics.proofs.Tables.{each_same}
 use Rattle.basics.proofs.Counts.{count_below, top_same}
@@ -42,3 +42,7 @@ unfolding rounded_at need most
 most_is cs n w r C e h =
     h ∙ top_same (rounded_at w C) (need w cs) n
     (λ x k l. ap (rounded w) (ap (λ (z : List ℕ). at z x) e ∙ at_each (load cs) n x k (omega arith)))
+
+-- a quotient of a number that fits a cell fits a cell
+pub quotient_fits : (x w : ℕ) → x < 65536 → Fits w16 (x / w)
+quotient_fits x w h = omega (arith, div-le_self x w)

@@ -11,17 +11,17 @@ use Rattle.scans.specs.inner.Chunks.{CameTo}
 use Rattle.scans.specs.Scans.{both_within, cell_within, within}
 
 -- not below the bounds, and not above them
-within_hit : (b : Bounds) (x : ℕ) → b.low ≤ x → x ≤ b.high → within b x ≡ true
+pub within_hit : (b : Bounds) (x : ℕ) → b.low ≤ x → x ≤ b.high → within b x ≡ true
 unfolding within
 within_hit b x l h = and_of _ _ (le-leb _ _ l) (le-leb _ _ h)
 
 -- below the bounds
-within_below : (b : Bounds) (x : ℕ) → x < b.low → within b x ≡ false
+pub within_below : (b : Bounds) (x : ℕ) → x < b.low → within b x ≡ false
 unfolding within
 within_below b x l = rw (lt-leb b.low x l)
 
 -- above the bounds
-within_above : (b : Bounds) (x : ℕ) → b.high < x → within b x ≡ false
+pub within_above : (b : Bounds) (x : ℕ) → b.high < x → within b x ≡ false
 unfolding within
 within_above b x h = rw (lt-leb x b.high h) (and_false (leb b.low x))
 

@@ -11,8 +11,8 @@ use std::rt::Files;
 fn read_and_print<R: Files + Print>(rt: &R, line: &mut [u8], circuits: &mut [u8], out: &mut [u8])
     requires { (length line.old ≡ 7) × (length circuits.old ≡ 16392) × (147536 ≤ length out.old) }
 {
-    let line = files::read_file(rt, "line.rec", line).ok();
-    let circuits = files::read_file(rt, "circuits.rec", circuits).ok();
+    let line = files::read_file(rt, b"line.rec", line).ok();
+    let circuits = files::read_file(rt, b"circuits.rec", circuits).ok();
     let k = prints::print_sheet(line, circuits, out);
     let _ = files::write_output(rt, &out[..k]);
 }

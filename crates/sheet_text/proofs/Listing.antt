@@ -4,7 +4,7 @@ use mathlib.Core.List.{◌++◌}
 use Rattle.std.specs.Prelude.{None}
 use Rattle.grid.specs.Frequencies.{anchor_of, spacing_of, channel_of, frequency_of}
 use Rattle.refusals.specs.declared.Reason.TheVariants.{Unread}
-use Rattle.sheet_text.specs.Text.{fields, line, fibre_line, circuit_line, total_line, refusal_line, yes_line, no_line}
+use Rattle.sheet_text.specs.Text.{fields, line, fibre_line, circuit_line, total_line, refusal_numbers, refusal_line, yes_line, no_line}
 use Rattle.text.specs.Decimals.{decimal_in, decimal}
 use Rattle.text.specs.Words.{words, codes}
 
@@ -33,7 +33,7 @@ totals_listed = refl
 
 -- no files
 pub no_files : refusal_line (record { reason = Unread; place = 0; end = None }) ≡ words "R 11 0 0\n"
-unfolding refusal_line line fields decimal decimal_in words codes
+unfolding refusal_line refusal_numbers line fields decimal decimal_in words codes
 no_files = refl
 
 -- the listing's plan is sound

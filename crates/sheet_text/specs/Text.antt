@@ -31,8 +31,12 @@ unfoldable pub total_line : ℕ → ℕ → ℕ → List ℕ
 total_line fibres total floor = line 84 (fibres ∷ total ∷ floor ∷ [])
 
 -- R: number, place, which end is wrong
+unfoldable pub refusal_numbers : ℕ → ℕ → ℕ → List ℕ
+refusal_numbers number place end = line 82 (number ∷ place ∷ end ∷ [])
+
+-- R: the numbers of a refusal
 unfoldable pub refusal_line : Refusal → List ℕ
-refusal_line r = line 82 (number_of r.reason ∷ r.place ∷ end_told r.end ∷ [])
+refusal_line r = refusal_numbers (number_of r.reason) r.place (end_told r.end)
 
 -- Y: total length, floor
 unfoldable pub yes_line : ℕ → ℕ → List ℕ

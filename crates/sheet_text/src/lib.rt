@@ -3,7 +3,7 @@
 #![tactic(auto)]
 
 ghost use Rattle.std.specs.Prelude.{◌+◌, ◌*◌, ◌≤◌, length};
-ghost use Rattle.sheet_text.specs.Text.{no_line, refusal_line, sheet_text, yes_line};
+ghost use Rattle.sheet_text.specs.Text.{no_line, refusal_line, refusal_numbers, sheet_text, yes_line};
 ghost use Rattle.text.specs.Wrote.{Wrote};
 
 use refusals::Refusal;
@@ -13,17 +13,25 @@ mod fields;
 mod lines;
 mod lists;
 
+// The one line of a refusal by its numbers, at the start of the buffer. What is told: its length.
+#[tactic(auto, using(crate::proofs::Lengths::line_room), unfolding(crate::specs::Text::refusal_numbers))]
+pub fn write_refusal(number: u32, place: u32, end: u32, out: &mut [u8]) -> usize
+    requires { 80 ≤ length out.old }
+    ensures { Wrote (refusal_numbers number place end) result out.old out.new }
+{
+    lines::write_line(b'R', &[number as usize, place as usize, end as usize], out)
+}
+
 // The one line of a refusal, at the start of the buffer. What is told: its length.
-#[tactic(auto, using(crate::proofs::Lengths::line_room), unfolding(crate::specs::Text::refusal_line))]
-pub fn write_refusal(refusal: Refusal, out: &mut [u8]) -> usize
+#[tactic(auto, unfolding(crate::specs::Text::refusal_line))]
+pub fn write_refused(refusal: Refusal, out: &mut [u8]) -> usize
     requires { 80 ≤ length out.old }
     ensures { Wrote (refusal_line refusal) result out.old out.new }
 {
-    let number = u32::from(refusal.reason);
-    let end = refusal.end_told();
-    lines::write_line(
-        b'R',
-        &[number as usize, refusal.place as usize, end as usize],
+    write_refusal(
+        u32::from(refusal.reason),
+        refusal.place,
+        refusal.end_told(),
         out,
     )
 }

@@ -22,6 +22,10 @@ module _ {n m top : ℕ} {b₀ table₀ : List ℕ} (parts : HasParts n m top b�
   layering_start =
       record { high = omega arith; long = refl; sized = refl; spare = record { kept = refl; starts = λ h l. absurd (omega arith) }; pairs_are = refl; put = refl }
 
+  -- the pairs so far are no more than all
+  pub layering_few : {b table : List ℕ} {h pairs : ℕ} → Layering n m top b₀ table₀ b table h pairs → pairs ≤ length (layers_in n top b₀)
+  layering_few {h = h} g = let a = g.high in let k = g.pairs_are in omega (arith, layers_grow (at (cells_of b₀)) n top h top (omega arith))
+
   module _ {b table : List ℕ} {h pairs : ℕ} (g : Layering n m top b₀ table₀ b table h pairs) (l : h < top) {b₁ : List ℕ} (e : b₁ ≡ set_cell b (2 * n + m + h) pairs) where
     -- one more spare cell
     spare_more : Spared n m top (h + 1) (cells_of b₀) (cells_of b₁)

@@ -4,6 +4,7 @@ use mathlib.Core.Bool.{Bool, cond}
 use mathlib.Core.Path.{◌≡◌, sym, ap, ◌∙◌}
 use mathlib.Core.List.{List}
 use native.Mathlib.Omega.{arith}
+use native.Mathlib.Nat.{div-add-mod'}
 use lib.Dec.{leb}
 use lib.ListN.{length, get_or}
 use lib.Seq.{get_or-drop}
@@ -80,6 +81,10 @@ module _ {n w m count : ℕ} {s work table : List ℕ} (src : Sources n w m coun
   fibre_counts pair p =
       let u : v % 2 ≡ cond led 0 1 = row_half.1 in
       on led (λ t. let u' : v % 2 ≡ 0 = rw t at u in rw t (omega arith)) (λ t. let u' : v % 2 ≡ 1 = rw t at u in rw t (omega arith))
+
+  -- the rows of the earlier layers come before its row
+  pub wavelength_low : (v / 2 - 1) / w * w ≤ v / 2
+  wavelength_low = omega (arith, div-add-mod' (v / 2 - 1) w)
 
   -- its wavelength: its row less the rows of the earlier layers
   wavelength_counts : v / 2 - (v / 2 - 1) / w * w ≡ (given_in n w m s j).wavelength

@@ -45,6 +45,14 @@ module _ (n w m top k : ℕ) (s work area area₁ : List ℕ) (y : Sources n w m
   starts : mid_of (n * (k - 1)) (n * k - n * (k - 1)) area₁ ≡ (begun n w (circuits_in m s) k (sheet n w (circuits_in m s) (k - 1))).colours
   starts = begun_part n w (circuits_in m s) k pos top (cells_of work) area area₁ t.drawn y.top_is y.needs row_room b
 
+  -- the lent part is a row
+  pub row_board : Board n m s work (mid_of (n * (k - 1)) (n * k - n * (k - 1)) area₁)
+  row_board =
+      let z = times_turn n k pos in
+      let l = b.long in
+      let e : n * k - n * (k - 1) ≡ n = omega arith in
+      record { file = y.accepted.file; room = y.room; wide = mid_len (n * (k - 1)) (n * k) area₁ (omega (arith, row_room)) ∙ e }
+
   module _ (work' row' : List ℕ) (f : RowFilled n m k s work (mid_of (n * (k - 1)) (n * k - n * (k - 1)) area₁) work' row') where
     -- it ends as it should
     ended : state_in n m work' row' ≡ sheet n w (circuits_in m s) k

@@ -1,10 +1,11 @@
 -- `trim` meets its contract: the chains are made, the sweep begins with nothing listed, and what it leaves is `Lean`. Assumes nothing.
+use mathlib.Core.Path.{refl}
 use Rattle.basics.proofs.Tables.{zeros_at}
 use Rattle.lit.proofs.Whole.{origin, held_unchained, held_ground, held_start, held_done}
 use Rattle.lit.proofs.trim.Goals as goal
 
 pub by_fibre-requires : goal.by_fibre-requires
-by_fibre-requires c = let t = c.requires in record { unchained = held_unchained t t.plan t.held; no_heads = zeros_at 4096 }
+by_fibre-requires c = let t = c.requires in held_unchained t t.plan t.held _ _ refl refl (zeros_at 4096)
 
 pub trim_all-requires : goal.trim_all-requires
 trim_all-requires c = let t = c.requires in record {

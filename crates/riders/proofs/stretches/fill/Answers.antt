@@ -1,7 +1,7 @@
 -- `fill`: one link more. Assumes nothing.
 use mathlib.Core.Path.{refl}
 use native.Mathlib.Omega.{arith}
-use Rattle.riders.proofs.FillLaws.{loop_near, loop_start, loop_done, link_room, link_end, link_cell, link_turn}
+use Rattle.riders.proofs.FillLaws.{loop_near, loop_start, loop_done, link_room, link_fits, link_cell, link_turn}
 use Rattle.riders.proofs.PickLaws.{near_on}
 use Rattle.riders.proofs.stretches.fill.Goals as goal
 
@@ -16,7 +16,7 @@ put_stretch-at-requires-clause-room c = let a = c.args in
 
 pub overflow_cast-index-in-loop-link : goal.overflow_cast-index-in-loop-link
 overflow_cast-index-in-loop-link c = let a = c.args in
-    let low = link_end a.links a.columns.now a.index.now c.requires.rises.2 _ _ _ _ (omega arith) (omega arith) c.go_on.ensures c.loop-link.invariant.1 _ _ c.put_stretch-at.ensures c.requires.links_value in
+    let low = link_fits a.links a.columns.now a.index.now c.requires.rises.2 _ _ _ _ (omega arith) (omega arith) c.go_on.ensures c.loop-link.invariant.1 _ _ c.put_stretch-at.ensures c.requires.links_value in
     omega (arith, low)
 
 pub bounds-index-link : goal.bounds-index-link

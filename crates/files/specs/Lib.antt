@@ -1,0 +1,2 @@
+-- What the contracts of the files cite.
+pub mod Starts
