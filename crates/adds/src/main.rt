@@ -4,7 +4,7 @@
 #![tactic(auto)]
 
 ghost use Rattle.std.specs.Prelude.{◌≤◌, length, IfSome};
-ghost use Rattle.prints.specs.Adding.{AddRead};
+ghost use Rattle.prints.specs.Adding.{AddStarts};
 
 use files::Start;
 use std::io::Print;
@@ -34,9 +34,9 @@ fn grow_and_keep<R: Files + Print>(
     assigns: &mut [u8],
     out: &mut [u8],
 )
-    requires { AddRead line got_circuits new got_fibres got_assigns circuits.old fibres.old assigns.old × (213072 ≤ length out.old) }
+    requires { AddStarts line got_circuits new got_fibres got_assigns circuits.old fibres.old assigns.old × (213072 ≤ length out.old) }
 {
-    let grown = prints::adding::grow_files(
+    let grown = prints::adding::grow_files_from_starts(
         line,
         got_circuits,
         circuits,

@@ -23,7 +23,7 @@ fn read_and_print<R: Files + Print>(
     let circuits = files::read_file(rt, b"circuits.rec", circuits).ok();
     let fibres = files::read_file(rt, b"fibres.rec", fibres).ok();
     let assigns = files::read_file(rt, b"assign.rec", assigns).ok();
-    let k = prints::checks::print_check(line, circuits, fibres, assigns, out);
+    let k = prints::checks::print_check_from_starts(line, circuits, fibres, assigns, out);
     let _ = files::write_output(rt, &out[..k]);
 }
 

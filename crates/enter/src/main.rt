@@ -25,7 +25,7 @@ fn read_and_enter<R: Files + Input + Print>(
     message: &mut [u8; 76],
 ) {
     let text = files::read_input(rt, buffer).ok();
-    let made = prints::entering::make_files(text, line, circuits, message);
+    let made = prints::entering::make_files_from_start(text, line, circuits, message);
     let message = &message[..made.message];
     let Some(long) = made.files else {
         let _ = files::write_output(rt, message);

@@ -27,7 +27,7 @@ fn read_and_keep<R: Files + Print>(
 ) {
     let line = files::read_file(rt, b"line.rec", line).ok();
     let circuits = files::read_file(rt, b"circuits.rec", circuits).ok();
-    let kept = prints::keeping::keep_lists(line, circuits, fibres, assigns, out);
+    let kept = prints::keeping::keep_lists_from_starts(line, circuits, fibres, assigns, out);
     let text = &out[..kept.text];
     let Some(long) = kept.lists else {
         let _ = files::write_output(rt, text);

@@ -10,10 +10,10 @@ use Rattle.records.specs.declared.Line.{Line}
 use Rattle.std.specs.Prelude.{Option, Some, None, Result, Ok, Err, IfSome}
 use Rattle.refusals.specs.declared.Refusal.{Refusal}
 use Rattle.adder.specs.Additions.{Files}
-use Rattle.prints.specs.Adding.{add_printed, all_read, files_by, Folder, folder_verdict, grown, grown_by, grown_files, grown_of, grown_text, grown_text_by, Filed, new_in, old_in}
+use Rattle.prints.specs.Adding.{AddRead, add_printed, all_read, files_by, Folder, folder_verdict, grown, grown_by, grown_files, grown_of, grown_text, grown_text_by, Filed, new_in, old_in}
 use Rattle.prints.specs.Reads.{AtMost, file_read}
 use Rattle.prints.specs.declared.adding.Lengths.{Lengths}
-use Rattle.prints.specs.inner.Lent.{Appendable, Appended, FolderRead, ListsLaid, old_read}
+use Rattle.prints.specs.inner.Lent.{Appendable, Appended, ListsLaid, old_read}
 
 -- THE CIRCUITS, of an addition whose lists are laid
 module _ (line : Line) (new : List ℕ) (c f a : ℕ) (circuits₀ fibres₀ fibres assigns₀ assigns : List ℕ) (front : c ≤ length circuits₀) where
@@ -54,7 +54,7 @@ module _ (line : Line) (new : List ℕ) (c f a : ℕ) (circuits₀ fibres₀ fib
   all_filed r circuits l e = filed_by (folder_verdict line old new) r circuits l e
 
 -- all files were read, and `line.rec` says a line
-module _ (line new : Option (List ℕ)) (got_circuits got_fibres got_assigns : Option ℕ) (circuits fibres assigns : List ℕ) (read : FolderRead got_circuits new got_fibres got_assigns circuits fibres assigns)
+module _ (line new : Option (List ℕ)) (got_circuits got_fibres got_assigns : Option ℕ) (circuits fibres assigns : List ℕ) (read : AddRead got_circuits new got_fibres got_assigns circuits fibres assigns)
     (s n : List ℕ) (c f a : ℕ) (l : Line) (e : line ≡ Some s) (p : got_circuits ≡ Some c) (q : new ≡ Some n) (t : got_fibres ≡ Some f) (x : got_assigns ≡ Some a) (u : line_in s ≡ Some l) where
   -- the folder, as it was read
   abbrev given : Folder

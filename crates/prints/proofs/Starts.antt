@@ -7,9 +7,8 @@ use lib.ListN.{length, take}
 use lib.Seq.{length-take-le}
 use Rattle.std.specs.Prelude.{Option, Some, None, IfSome}
 use Rattle.files.specs.declared.Start.{Start}
-use Rattle.prints.specs.Adding.{AddRead}
+use Rattle.prints.specs.Adding.{AddRead, AddStarts}
 use Rattle.prints.specs.Reads.{AtMost, Into, start_read}
-use Rattle.prints.specs.inner.Lent.{FolderRead}
 
 pub held : (room : ℕ) (got : Option Start) → Into room got → IfSome got (λ s. s.read ≤ length s.buffer.now)
 held room (Some s) h = omega (arith, h)
@@ -19,9 +18,9 @@ pub at_most : (room : ℕ) (got : Option Start) → Into room got → AtMost roo
 at_most room (Some s) h = omega (arith, h, length-take-le s.read s.buffer.now (omega (arith, h)))
 at_most room None h = tt
 
-pub folder_read : (line new : Option Start) (got_circuits got_fibres got_assigns : Option ℕ) (circuits fibres assigns : List ℕ) → AddRead line got_circuits new got_fibres got_assigns circuits fibres assigns
-    → FolderRead got_circuits (start_read new) got_fibres got_assigns circuits fibres assigns
-folder_read line new got_circuits got_fibres got_assigns circuits fibres assigns h = record {
+pub starts_read : (line new : Option Start) (got_circuits got_fibres got_assigns : Option ℕ) (circuits fibres assigns : List ℕ) → AddStarts line got_circuits new got_fibres got_assigns circuits fibres assigns
+    → AddRead got_circuits (start_read new) got_fibres got_assigns circuits fibres assigns
+starts_read line new got_circuits got_fibres got_assigns circuits fibres assigns h = record {
   circuits_read = h.circuits_read;
   circuits_long = h.circuits_long;
   new_read = at_most 16392 new h.new_read;

@@ -132,8 +132,18 @@ abbrev pub Grows : Option Files → List ℕ → Grown → List ℕ → List ℕ
 Grows files text grown circuits₀ circuits fibres₀ fibres assigns₀ assigns out₀ out =
     Filed files grown.files circuits₀ circuits fibres₀ fibres assigns₀ assigns × Wrote text grown.text out₀ out
 
--- what the program read: two files as the sheet program reads them, as many bytes of `new.rec`, and as many at the start of each list, which has room for more
-pub record AddRead (line : Option Start) (circuits : Option ℕ) (new : Option Start) (fibres assigns : Option ℕ) (circuitBuffer fibreBuffer assignBuffer : List ℕ) : Type 0 where
+-- what the program read: at most 16,392 bytes of `circuits.rec` and of `new.rec`, which are all that count, and as many at the start of each list, which has room for more
+pub record AddRead (circuits : Option ℕ) (new : Option (List ℕ)) (fibres assigns : Option ℕ) (circuitBuffer fibreBuffer assignBuffer : List ℕ) : Type 0 where
+  pub circuits_read : IfSome circuits (λ k. k ≤ 16392)
+  pub circuits_long : length circuitBuffer ≡ 16392
+  pub new_read : IfSome new (λ s. length s ≤ 16392)
+  pub fibres_read : IfSome fibres (λ k. k ≤ 16392)
+  pub fibres_long : length fibreBuffer ≡ 32776
+  pub assigns_read : IfSome assigns (λ k. k ≤ 16392)
+  pub assigns_long : length assignBuffer ≡ 32776
+
+-- the same with the buffers of `line.rec` and `new.rec`: two files as the sheet program reads them, as many bytes of `new.rec`, and as many at the start of each list, which has room for more
+pub record AddStarts (line : Option Start) (circuits : Option ℕ) (new : Option Start) (fibres assigns : Option ℕ) (circuitBuffer fibreBuffer assignBuffer : List ℕ) : Type 0 where
   pub line_read : Into 7 line
   pub circuits_read : IfSome circuits (λ k. k ≤ 16392)
   pub circuits_long : length circuitBuffer ≡ 16392

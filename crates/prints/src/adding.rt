@@ -2,9 +2,9 @@
 // The lent areas go one by one: a struct that holds them by reference makes clauses say `.entry.` of each field.
 ghost use Rattle.std.specs.Prelude.{◌≡◌, ◌+◌, ◌≤◌, length, take};
 ghost use Rattle.std.specs.Option.{option_copied};
-ghost use Rattle.prints.specs.Adding.{AddRead, add_printed, all_read, grown, grown_of, grown_text, Grows};
+ghost use Rattle.prints.specs.Adding.{AddRead, AddStarts, add_printed, all_read, grown, grown_of, grown_text, Grows};
 ghost use Rattle.prints.specs.Reads.{file_read, start_read};
-ghost use Rattle.prints.specs.inner.Lent.{Appendable, Appended, FolderRead, Growable, Laid, old_read, records_read};
+ghost use Rattle.prints.specs.inner.Lent.{Appendable, Appended, Growable, Laid, old_read, records_read};
 
 use adder::Named;
 use files::Start;
@@ -118,7 +118,7 @@ fn grow_circuits(
 // Which files are kept and what is printed, at the start of four buffers, from the bytes of the five files as far as they can be read. Three of them grow in the
 // buffers where they were read, so of these it is told how many bytes were.
 #[tactic(auto, unfolding(crate::specs::Adding::all_read, crate::specs::Adding::grown, crate::specs::Adding::add_printed))]
-fn grow_bytes(
+pub fn grow_files(
     line: Option<&[u8]>,
     got_circuits: Option<usize>,
     circuits: &mut [u8],
@@ -129,7 +129,7 @@ fn grow_bytes(
     assigns: &mut [u8],
     out: &mut [u8],
 ) -> Grown
-    requires { FolderRead got_circuits (option_copied new) got_fibres got_assigns circuits.old fibres.old assigns.old × (213072 ≤ length out.old) }
+    requires { AddRead got_circuits (option_copied new) got_fibres got_assigns circuits.old fibres.old assigns.old × (213072 ≤ length out.old) }
     ensures { Grows (grown (all_read (option_copied line.entry) (file_read got_circuits circuits.old) (option_copied new.entry) (file_read got_fibres fibres.old) (file_read got_assigns assigns.old))) (add_printed (all_read (option_copied line.entry) (file_read got_circuits circuits.old) (option_copied new.entry) (file_read got_fibres fibres.old) (file_read got_assigns assigns.old))) result circuits.old circuits.new fibres.old fibres.new assigns.old assigns.new out.old out.new }
 {
     let (Some(line), Some(c), Some(new), Some(f), Some(a)) = (
@@ -147,10 +147,9 @@ fn grow_bytes(
     grow_circuits(line, c, circuits, new, f, fibres, a, assigns, out)
 }
 
-// Which files are kept and what is printed, at the start of four buffers, from the five files as far as they can be read. Three of them grow in the buffers where they
-// were read, so of these it is told how many bytes were.
-#[tactic(auto, using(crate::proofs::Starts::held, crate::proofs::Starts::folder_read))]
-pub fn grow_files(
+// The same, from the starts of `line.rec` and `new.rec`, each read into a buffer with room for more than counts.
+#[tactic(auto, using(crate::proofs::Starts::held, crate::proofs::Starts::starts_read))]
+pub fn grow_files_from_starts(
     line: Option<Start>,
     got_circuits: Option<usize>,
     circuits: &mut [u8],
@@ -161,10 +160,10 @@ pub fn grow_files(
     assigns: &mut [u8],
     out: &mut [u8],
 ) -> Grown
-    requires { AddRead line got_circuits new got_fibres got_assigns circuits.old fibres.old assigns.old × (213072 ≤ length out.old) }
+    requires { AddStarts line got_circuits new got_fibres got_assigns circuits.old fibres.old assigns.old × (213072 ≤ length out.old) }
     ensures { Grows (grown (all_read (start_read line.entry) (file_read got_circuits circuits.old) (start_read new.entry) (file_read got_fibres fibres.old) (file_read got_assigns assigns.old))) (add_printed (all_read (start_read line.entry) (file_read got_circuits circuits.old) (start_read new.entry) (file_read got_fibres fibres.old) (file_read got_assigns assigns.old))) result circuits.old circuits.new fibres.old fibres.new assigns.old assigns.new out.old out.new }
 {
-    grow_bytes(
+    grow_files(
         crate::bytes_of(line),
         got_circuits,
         circuits,

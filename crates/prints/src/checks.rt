@@ -35,7 +35,7 @@ fn write_check(line: Line, circuits: &[u8], fibres: &[u8], assigns: &[u8], out: 
 
 // What the check program prints, at the start of a buffer, from the bytes of its four files as far as they can be read. What is told: its length.
 #[tactic(auto, using(crate::proofs::CheckLaws::line_checked), unfolding(crate::specs::Checks::check_printed))]
-fn print_bytes(
+pub fn print_check(
     line: Option<&[u8]>,
     circuits: Option<&[u8]>,
     fibres: Option<&[u8]>,
@@ -56,9 +56,9 @@ fn print_bytes(
     write_check(line, circuits, fibres, assigns, out)
 }
 
-// What the check program prints, at the start of a buffer, from its four files as far as they can be read. What is told: its length.
+// The same, from the starts of its four files, each read into a buffer with room for more than counts.
 #[tactic(auto, using(crate::proofs::Starts::held, crate::proofs::Starts::at_most))]
-pub fn print_check(
+pub fn print_check_from_starts(
     line: Option<Start>,
     circuits: Option<Start>,
     fibres: Option<Start>,
@@ -68,7 +68,7 @@ pub fn print_check(
     requires { CheckRead line circuits fibres assigns × (80 ≤ length out.old) }
     ensures { Wrote (check_printed (start_read line.entry) (start_read circuits.entry) (start_read fibres.entry) (start_read assigns.entry)) result out.old out.new }
 {
-    print_bytes(
+    print_check(
         crate::bytes_of(line),
         crate::bytes_of(circuits),
         crate::bytes_of(fibres),

@@ -66,7 +66,7 @@ pub fn keep_plan(
 
 // Which lists are kept and what is printed, at the start of three buffers, from the bytes of its two files as far as they can be read.
 #[tactic(auto, using(crate::proofs::Printing::line_printed, crate::proofs::KeepingLaws::line_kept), unfolding(crate::specs::Sheets::printed, crate::specs::Keeping::kept))]
-fn keep_bytes(
+pub fn keep_lists(
     line: Option<&[u8]>,
     circuits: Option<&[u8]>,
     fibres: &mut [u8],
@@ -85,9 +85,9 @@ fn keep_bytes(
     keep_plan(line, circuits, fibres, assigns, out)
 }
 
-// Which lists are kept and what is printed, at the start of three buffers, from its two files as far as they can be read.
+// The same, from the starts of its two files, each read into a buffer with room for more than counts.
 #[tactic(auto, using(crate::proofs::Starts::held, crate::proofs::Starts::at_most))]
-pub fn keep_lists(
+pub fn keep_lists_from_starts(
     line: Option<Start>,
     circuits: Option<Start>,
     fibres: &mut [u8],
@@ -97,7 +97,7 @@ pub fn keep_lists(
     requires { SheetRead line circuits × ((16384 ≤ length fibres.old) × (16384 ≤ length assigns.old) × (147536 ≤ length out.old)) }
     ensures { Keeps (kept (start_read line.entry) (start_read circuits.entry)) (printed (start_read line.entry) (start_read circuits.entry)) result fibres.old fibres.new assigns.old assigns.new out.old out.new }
 {
-    keep_bytes(
+    keep_lists(
         crate::bytes_of(line),
         crate::bytes_of(circuits),
         fibres,

@@ -18,6 +18,8 @@ pub mod adding;
 pub mod checks;
 pub mod entering;
 pub mod keeping;
+#[cfg(test)]
+mod tests;
 pub mod typed;
 
 // The text of an answer on a grid, with m circuits and the two lists as the planner left them, at the start of a buffer. What is told: its length.
@@ -69,7 +71,7 @@ fn bytes_of<'a>(got: Option<Start<'a>>) -> Option<&'a [u8]>
 
 // What the sheet program prints, at the start of a buffer, from the bytes of its two files as far as they can be read. What is told: its length.
 #[tactic(auto, using(crate::proofs::Printing::line_printed), unfolding(crate::specs::Sheets::printed))]
-fn print_bytes(line: Option<&[u8]>, circuits: Option<&[u8]>, out: &mut [u8]) -> usize
+pub fn print_sheet(line: Option<&[u8]>, circuits: Option<&[u8]>, out: &mut [u8]) -> usize
     requires { AtMost 16392 (option_copied circuits) × (147536 ≤ length out.old) }
     ensures { Wrote (printed (option_copied line.entry) (option_copied circuits.entry)) result out.old out.new }
 {
@@ -79,11 +81,15 @@ fn print_bytes(line: Option<&[u8]>, circuits: Option<&[u8]>, out: &mut [u8]) -> 
     write_sheet(line, circuits, out)
 }
 
-// What the sheet program prints, at the start of a buffer, from its two files as far as they can be read. What is told: its length.
+// The same, from the starts of its two files, each read into a buffer with room for more than counts.
 #[tactic(auto, using(crate::proofs::Starts::held, crate::proofs::Starts::at_most))]
-pub fn print_sheet(line: Option<Start>, circuits: Option<Start>, out: &mut [u8]) -> usize
+pub fn print_sheet_from_starts(
+    line: Option<Start>,
+    circuits: Option<Start>,
+    out: &mut [u8],
+) -> usize
     requires { SheetRead line circuits × (147536 ≤ length out.old) }
     ensures { Wrote (printed (start_read line.entry) (start_read circuits.entry)) result out.old out.new }
 {
-    print_bytes(bytes_of(line), bytes_of(circuits), out)
+    print_sheet(bytes_of(line), bytes_of(circuits), out)
 }

@@ -1,5 +1,6 @@
 // What is printed for a text that a person typed.
 ghost use Rattle.std.specs.Prelude.{◌≡◌, ◌/◌, ◌≤◌, length};
+ghost use Rattle.std.specs.Option.{option_copied};
 ghost use Rattle.refusals.specs.Table.{verdict, circuit_rows};
 ghost use Rattle.text.specs.Wrote.{Wrote};
 ghost use Rattle.prints.specs.Reads.{start_read, TextRead};
@@ -90,13 +91,22 @@ fn write_typed(text: &[u8], circuits: &mut [u8], out: &mut [u8]) -> usize
 }
 
 // What is printed, from the text as far as standard input can be read. What is told: how many bytes.
-#[tactic(auto, using(crate::proofs::Starts::held), unfolding(crate::specs::Typed::typed, text::specs::Words::words, text::specs::Words::codes))]
-pub fn print_typed(text: Option<Start>, circuits: &mut [u8], out: &mut [u8]) -> usize
-    requires { TextRead text × ((length circuits.old ≡ 16384) × (147664 ≤ length out.old)) }
-    ensures { Wrote (typed (start_read text.entry)) result out.old out.new }
+#[tactic(auto, unfolding(crate::specs::Typed::typed, text::specs::Words::words, text::specs::Words::codes))]
+pub fn print_typed(text: Option<&[u8]>, circuits: &mut [u8], out: &mut [u8]) -> usize
+    requires { (length circuits.old ≡ 16384) × (147664 ≤ length out.old) }
+    ensures { Wrote (typed (option_copied text.entry)) result out.old out.new }
 {
-    match crate::bytes_of(text) {
+    match text {
         Some(text) => write_typed(text, circuits, out),
         None => text::write_words(b"standard input cannot be read\n", out),
     }
+}
+
+// The same, from the start of standard input, read into a buffer with room for more than the longest text.
+#[tactic(auto, using(crate::proofs::Starts::held))]
+pub fn print_typed_from_start(text: Option<Start>, circuits: &mut [u8], out: &mut [u8]) -> usize
+    requires { TextRead text × ((length circuits.old ≡ 16384) × (147664 ≤ length out.old)) }
+    ensures { Wrote (typed (start_read text.entry)) result out.old out.new }
+{
+    print_typed(crate::bytes_of(text), circuits, out)
 }

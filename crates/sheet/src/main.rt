@@ -13,7 +13,7 @@ fn read_and_print<R: Files + Print>(rt: &R, line: &mut [u8], circuits: &mut [u8]
 {
     let line = files::read_file(rt, b"line.rec", line).ok();
     let circuits = files::read_file(rt, b"circuits.rec", circuits).ok();
-    let k = prints::print_sheet(line, circuits, out);
+    let k = prints::print_sheet_from_starts(line, circuits, out);
     let _ = files::write_output(rt, &out[..k]);
 }
 

@@ -11,7 +11,7 @@ fn read_and_print<R: Input + Print>(
     out: &mut [u8; 147664],
 ) {
     let text = files::read_input(rt, buffer).ok();
-    let k = prints::typed::print_typed(text, circuits, out);
+    let k = prints::typed::print_typed_from_start(text, circuits, out);
     let _ = files::write_output(rt, &out[..k]);
 }
 

@@ -12,8 +12,8 @@ into : {E : Type 0} (r : Result Start E) (o : Option Start) (a b : ℕ) → IfOk
 into (Ok s) o a b h p q = subst (λ (x : Option Start). IfSome x (ReadInto b)) (sym p) (subst (λ (n : ℕ). ReadInto n s) q h)
 into (Err e) o a b h p q = subst (λ (x : Option Start). IfSome x (ReadInto b)) (sym p) tt
 
-pub print_check-k-requires : goal.print_check-k-requires
-print_check-k-requires g c =
+pub print_check_from_starts-k-requires : goal.print_check_from_starts-k-requires
+print_check_from_starts-k-requires g c =
     let p = c.requires in (
       record {
         sheet_read = record {

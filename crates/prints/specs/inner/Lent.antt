@@ -1,12 +1,11 @@
 -- What a program that plans lends, and what it finds in the lists.
 -- Assumes nothing.
-use Rattle.std.specs.Prelude.{ℕ, ◌+◌, ◌*◌, ◌/◌, ◌%◌, ◌≤◌, ◌&&◌, cond, List, ◌++◌, ◌≡◌, eqb, length, drop, take, Option, Some, None, Ok, Err, IfSome}
+use Rattle.std.specs.Prelude.{ℕ, ◌+◌, ◌*◌, ◌/◌, ◌%◌, ◌≤◌, ◌&&◌, cond, List, ◌++◌, ◌≡◌, eqb, length, drop, take, Option, Some, None, Ok, Err}
 use Rattle.planner.specs.Outcome.{Answer}
 use Rattle.sheet_text.specs.Text.{sheet_text, refusal_line}
 use Rattle.text.specs.Wrote.{Wrote}
 use Rattle.adder.specs.Additions.{Files}
 use Rattle.adder.specs.declared.Named.{Named}
-use Rattle.prints.specs.Reads.{AtMost}
 use Rattle.prints.specs.declared.adding.Grown.{Grown}
 use Rattle.prints.specs.declared.adding.Lengths.{Lengths}
 
@@ -62,13 +61,3 @@ Appendable None c new before = Unit
 abbrev pub Appended : Option Lengths → ℕ → List ℕ → List ℕ → List ℕ → Type 0
 Appended (Some long) c new before after = after ≡ take c before ++ (new ++ drop (c + length new) before)
 Appended None c new before after = after ≡ before
-
--- the bytes of `line.rec` and `new.rec` are known, and of the three files that grow how many bytes were read: no more than count
-pub record FolderRead (circuits : Option ℕ) (new : Option (List ℕ)) (fibres assigns : Option ℕ) (circuitBuffer fibreBuffer assignBuffer : List ℕ) : Type 0 where
-  pub circuits_read : IfSome circuits (λ k. k ≤ 16392)
-  pub circuits_long : length circuitBuffer ≡ 16392
-  pub new_read : AtMost 16392 new
-  pub fibres_read : IfSome fibres (λ k. k ≤ 16392)
-  pub fibres_long : length fibreBuffer ≡ 32776
-  pub assigns_read : IfSome assigns (λ k. k ≤ 16392)
-  pub assigns_long : length assignBuffer ≡ 32776

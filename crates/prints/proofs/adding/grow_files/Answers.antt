@@ -1,4 +1,4 @@
--- `grow_bytes`: all files were read, and `line.rec` says a line. Assumes nothing.
+-- `grow_files`: all files were read, and `line.rec` says a line. Assumes nothing.
 use Prim.Native.Nat.{ℕ}
 use mathlib.Core.Path.{◌≡◌, refl, ap, subst, sym, ◌∙◌}
 use mathlib.Core.List.{List}
@@ -11,7 +11,7 @@ use Rattle.adder.specs.Additions.{Files}
 use Rattle.text.specs.Wrote.{Wrote}
 use Rattle.prints.specs.Adding.{Filed}
 use Rattle.prints.proofs.AddingReads.{line_grown, line_text}
-use Rattle.prints.proofs.adding.grow_bytes.Goals as goal
+use Rattle.prints.proofs.adding.grow_files.Goals as goal
 
 -- where `line.rec` says a line it was read
 said : (line : Option (Bor (List ℕ))) (o : Option Line) (l : Line) → MatchOption line (o ≡ None) (λ x. o ≡ line_in x.now) → o ≡ Some l
